@@ -1,0 +1,14 @@
+pub mod Forwards
+pub mod Frames
+pub mod ActsLemmas
+pub mod Confirmations
+pub mod Each
+pub mod StandingLemmas
+pub mod SlotLemmas
+pub mod Lawfulness
+pub mod Requests
+pub mod Members
+pub mod Closing
+pub mod AliveRuns
+pub mod Prefixes
+pub mod LawfulSteps

@@ -1,0 +1,103 @@
+// Why a line was refused.
+
+ghost use Rattle.std.specs.Prelude.{◌≡◌};
+ghost use Rattle.fnc_journal.specs.Causes.{word_of};
+
+/// The causes of a refused line, in the order in which they are tried.
+#[derive(Clone, Copy, Debug, PartialEq, Eq)]
+pub enum Cause {
+    TooLong,
+    NotUtf8,
+    Empty,
+    BadMoment,
+    MissingWord,
+    UnknownVerb,
+    ExtraWord,
+    BadEscape,
+    BadName,
+    BadNumber,
+    BadAction,
+    BadExit,
+    BadTotal,
+    BadWord,
+    PastMoment,
+    NotRegistered,
+    NoLevel,
+    BadIndex,
+    TooManyPlaces,
+    RepeatedDevice,
+    BadPattern,
+    TooManyLevels,
+    BadDescription,
+    NotObject,
+    BadField,
+    NoOff,
+    TooManyAgents,
+    TooManyOptions,
+    BadOption,
+    RepeatedOption,
+    BadHostList,
+    BadHostMap,
+    BadHostCheck,
+    BadDuration,
+    BadLimit,
+    BadPriority,
+    BadRetries,
+    MissingParameter,
+    TooManyDevices,
+    UnknownRun,
+    Full,
+    NoMemory,
+}
+
+impl Cause {
+    /// The word of the cause, as it is printed.
+    pub fn word(&self) -> &str
+        ensures { result.now ≡ word_of self.now }
+    {
+        match self {
+            Cause::TooLong => "too-long",
+            Cause::NotUtf8 => "not-utf8",
+            Cause::Empty => "empty",
+            Cause::BadMoment => "bad-moment",
+            Cause::MissingWord => "missing-word",
+            Cause::UnknownVerb => "unknown-verb",
+            Cause::ExtraWord => "extra-word",
+            Cause::BadEscape => "bad-escape",
+            Cause::BadName => "bad-name",
+            Cause::BadNumber => "bad-number",
+            Cause::BadAction => "bad-action",
+            Cause::BadExit => "bad-exit",
+            Cause::BadTotal => "bad-total",
+            Cause::BadWord => "bad-word",
+            Cause::PastMoment => "past-moment",
+            Cause::NotRegistered => "not-registered",
+            Cause::NoLevel => "no-level",
+            Cause::BadIndex => "bad-index",
+            Cause::TooManyPlaces => "too-many-places",
+            Cause::RepeatedDevice => "repeated-device",
+            Cause::BadPattern => "bad-pattern",
+            Cause::TooManyLevels => "too-many-levels",
+            Cause::BadDescription => "bad-description",
+            Cause::NotObject => "not-object",
+            Cause::BadField => "bad-field",
+            Cause::NoOff => "no-off",
+            Cause::TooManyAgents => "too-many-agents",
+            Cause::TooManyOptions => "too-many-options",
+            Cause::BadOption => "bad-option",
+            Cause::RepeatedOption => "repeated-option",
+            Cause::BadHostList => "bad-host-list",
+            Cause::BadHostMap => "bad-host-map",
+            Cause::BadHostCheck => "bad-host-check",
+            Cause::BadDuration => "bad-duration",
+            Cause::BadLimit => "bad-limit",
+            Cause::BadPriority => "bad-priority",
+            Cause::BadRetries => "bad-retries",
+            Cause::MissingParameter => "missing-parameter",
+            Cause::TooManyDevices => "too-many-devices",
+            Cause::UnknownRun => "unknown-run",
+            Cause::Full => "full",
+            Cause::NoMemory => "no-memory",
+        }
+    }
+}

@@ -1,0 +1,175 @@
+// What stands in a journal.
+
+ghost use Rattle.std.specs.Prelude.{◌≡◌};
+ghost use Rattle.fnc_journal.specs.Same as Same;
+
+use crate::cause::Cause;
+use crate::definition::{Description, Registration};
+use crate::names::Names;
+use crate::text::Text;
+
+/// The number of a registration, from 0.
+#[derive(Clone, Copy, Debug, PartialEq, Eq)]
+pub struct Reg(pub u32);
+
+/// The number of a request, from 0.
+#[derive(Clone, Copy, Debug, PartialEq, Eq)]
+pub struct Req(pub u32);
+
+/// The number of a run of an agent, from 0.
+#[derive(Clone, Copy, Debug, PartialEq, Eq)]
+pub struct Run(pub u32);
+
+/// What is asked of an agent.
+#[derive(Clone, Copy, Debug, PartialEq, Eq)]
+pub enum Kind {
+    On,
+    Off,
+    Reboot,
+    List,
+    Status,
+}
+
+/// The part that a slot has in an operation.
+#[derive(Clone, Copy, Debug, PartialEq, Eq)]
+pub enum Phase {
+    Query,
+    Act,
+    Off,
+    On,
+}
+
+/// A slot of an operation: its phase, its level (0 for a query), and the place of its device from 0.
+#[derive(Clone, Copy, Debug, PartialEq, Eq)]
+pub struct Slot {
+    pub phase: Phase,
+    pub level: u8,
+    pub place: u8,
+}
+
+impl Phase {
+    /// Whether this is the other phase.
+    pub fn is(self, other: Phase) -> bool
+        ensures { result ≡ Same.same_phase self other }
+    {
+        match (self, other) {
+            (Phase::Query, Phase::Query) => true,
+            (Phase::Act, Phase::Act) => true,
+            (Phase::Off, Phase::Off) => true,
+            (Phase::On, Phase::On) => true,
+            _ => false,
+        }
+    }
+}
+
+impl Slot {
+    /// Whether this is the other slot.
+    pub fn is(self, other: Slot) -> bool
+        ensures { result ≡ Same.same_slot self other }
+    {
+        self.phase.is(other.phase) && self.level == other.level && self.place == other.place
+    }
+}
+
+/// How a run ended.
+#[derive(Clone, Copy, Debug, PartialEq, Eq)]
+pub enum Exit {
+    Code(u8),
+    Signal,
+    NoStart,
+    TooLong,
+    NoMemory,
+}
+
+/// What a request is answered.
+#[derive(Clone, Copy, Debug, PartialEq, Eq)]
+pub enum Answer {
+    Passed(u8),
+    Levels,
+    Time,
+    NoDevice,
+    Confirmed,
+}
+
+/// What a level of the topology is for: one node, or all that a pattern matches.
+#[derive(Debug, Drop)]
+pub enum LevelTarget {
+    Name(Text),
+    Pattern(Text),
+}
+
+/// Which levels a request takes: none, those of the name, or those of the pattern whose oldest entry has this index.
+#[derive(Clone, Copy, Debug, PartialEq, Eq)]
+pub enum Scope {
+    Nothing,
+    Name,
+    Pattern(u32),
+}
+
+/// What happened. A start and a reply are outputs, all others are inputs.
+#[derive(Debug, Drop)]
+pub enum Event {
+    Device {
+        reg: Reg,
+        registration: Registration,
+    },
+    Gone {
+        reg: Reg,
+    },
+    Level {
+        target: LevelTarget,
+        index: u8,
+        devices: Names,
+    },
+    LevelGone {
+        target: LevelTarget,
+        index: u8,
+    },
+    Agent {
+        name: Text,
+        description: Description,
+    },
+    Ask {
+        req: Req,
+        lead: Req,
+        client: Text,
+        kind: Kind,
+        target: Text,
+        total: u64,
+        coin: u64,
+        scope: Scope,
+    },
+    Exit {
+        run: Run,
+        exit: Exit,
+        listed: bool,
+    },
+    Pass,
+    Confirm {
+        client: Text,
+        target: Text,
+    },
+    Refused {
+        line: u32,
+        cause: Cause,
+    },
+    Start {
+        run: Run,
+        req: Req,
+        slot: Slot,
+        reg: Reg,
+        kind: Kind,
+        attempt: u8,
+    },
+    Reply {
+        req: Req,
+        answer: Answer,
+    },
+}
+
+/// An entry of the journal.
+#[derive(Debug, Drop)]
+pub struct Entry {
+    pub moment: u64,
+    pub event: Event,
+}

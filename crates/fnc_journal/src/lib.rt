@@ -1,0 +1,26 @@
+// The journal of a fencer: what came to it and what it did, entry by entry. The definitions in
+// `specs/` speak of such journals alone: which are lawful, which answer is due, which start comes next.
+#![tactic(auto)]
+
+mod cause;
+mod definition;
+mod entry;
+mod journal;
+mod names;
+mod outcome;
+mod plan;
+mod sequence;
+mod text;
+
+pub use cause::Cause;
+pub use definition::{
+    Actions, Allowed, Base, Definition, Delay, Delays, Description, HostCheck, Parameter,
+    Parameters, Registration,
+};
+pub use entry::{Answer, Entry, Event, Exit, Kind, LevelTarget, Phase, Reg, Req, Run, Scope, Slot};
+pub use journal::Journal;
+pub use names::{Names, Pair, Pairs, find_pair, has_name, has_pair};
+pub use outcome::{Full, NoMemory, Outcome, Rule};
+pub use plan::{Candidate, Candidates, Levels, Places, Plan, PlanLevel};
+pub use sequence::Sequence;
+pub use text::{Bytes, Text};
