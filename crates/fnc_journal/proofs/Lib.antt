@@ -10,5 +10,9 @@ pub mod Requests
 pub mod Members
 pub mod Closing
 pub mod AliveRuns
+pub mod Fresh
+pub mod Asking
+pub mod Running
 pub mod Prefixes
 pub mod LawfulSteps
+pub mod DrivenSteps

@@ -17,6 +17,7 @@ pub mod Startable
 pub mod Owed
 pub mod Lawful
 pub mod Driven
+pub mod Served
 pub mod Outcomes
 pub mod Causes
 pub mod Line

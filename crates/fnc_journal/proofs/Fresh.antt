@@ -1,0 +1,123 @@
+-- Of a number to come a lawful journal knows nothing: no request, no reply, no run, no exit.
+use Rattle.std.proofs.Common.{ℕ, List, [], ◌∷◌, ◌++◌, Bool, true, false, ◌≡◌, ◌≤◌, ◌<◌, ◌+◌, refl, ap, sym, ◌∙◌, subst, Option, Some, None, IsTrue, arith, ◌==◌, ◌||◌, ◌&&◌, not, cond, eqb-true, ne_eqb, eq-eqb, is_some}
+use Rattle.std.specs.Prelude.{option_map, unwrap_or, filter, filter_map, find, option_and_then}
+use Rattle.std.specs.List.{AllByRecursion, cons_option}
+use Rattle.fnc_journal.specs.declared.entry.Event.{Event}
+use Rattle.fnc_journal.specs.declared.entry.Kind.{Kind}
+use Rattle.fnc_journal.specs.History.{History}
+use Rattle.fnc_journal.specs.Missing.{or_here, append_some}
+use Rattle.fnc_journal.specs.Found.{Asked, asked, asks, starts, Started, started, started_here, is_answered, is_reply_to, has_exit, is_exit_of}
+use Rattle.fnc_journal.specs.Slots.{Operation}
+use Rattle.fnc_journal.specs.Operations.{requests, request_here, operations, operation_here, operation, is_open, open_operations, joined, is_joinable, settled}
+use Rattle.fnc_journal.specs.Lawful.{Lawful, in_order, prompt, settled_since}
+use Rattle.fnc_journal.proofs.Each.{each-map, each-append, each-filter, found-each}
+use Rattle.fnc_journal.proofs.Lawfulness.{and-left, and-right, in_order-of}
+use Rattle.fnc_journal.proofs.Requests.{fresh_ask}
+use Rattle.fnc_journal.proofs.Closing.{operation-req}
+
+unequal : (n a s : ℕ) → (a == s) ≡ true → s + 1 ≤ n → (n == a) ≡ false
+unequal n a s e k = let f : a ≡ s = eqb-true a s e in ne_eqb n a (λ g. omega arith)
+
+-- what is asked of an absent one is false
+none_some : {X : Type 0} (x : Option X) → x ≡ None → is_some x ≡ true → ⊥
+none_some None e f = cc
+none_some (Some x) e f = cc
+
+-- no request to come is answered
+pub unasked_unanswered : (h : History) → Lawful h → (n : ℕ) → asks h ≤ n → is_answered n h ≡ false
+unasked_unanswered [] l n le = refl
+unasked_unanswered (e ∷ before) l n le = go e.event (in_order-of e.moment e.event before l.0.ordered) le (λ k. unasked_unanswered before l.1 n k)
+  where
+    go : (event : Event) → IsTrue (in_order event before) → asks (record { moment = e.moment; event = event } ∷ before) ≤ n →
+        (asks before ≤ n → is_answered n before ≡ false) → (is_reply_to n event || is_answered n before) ≡ false
+    go (Event.Ask req lead client kind target total coin scope) i k ih = let more : asks before + 1 ≤ n = k in ih (omega arith)
+    go (Event.Reply req answer) i k ih =
+        let other : (n == req.0) ≡ false = ne_eqb n req.0 (λ g. none_some (asked req.0 before) (fresh_ask before l.1 req.0 (omega (arith, g))) i) in
+        rw (other, ih k) refl
+    go _ i k ih = ih k
+
+-- no run to come is started
+pub fresh_start : (h : History) → Lawful h → (n : ℕ) → starts h ≤ n → started n h ≡ None
+fresh_start [] l n le = refl
+fresh_start (e ∷ before) l n le = go e.event (in_order-of e.moment e.event before l.0.ordered) le (λ k. fresh_start before l.1 n k)
+  where
+    go : (event : Event) → IsTrue (in_order event before) → starts (record { moment = e.moment; event = event } ∷ before) ≤ n →
+        (starts before ≤ n → started n before ≡ None) → or_here (started n before) (started_here n event) ≡ None
+    go (Event.Start run req slot reg kind attempt) i k ih =
+        let more : starts before + 1 ≤ n = k in
+        let other : (n == run.0) ≡ false = unequal n run.0 (starts before) (and-left _ _ (and-left _ _ i)) more in
+        rw (other, ih (omega arith)) refl
+    go _ i k ih = rw (ih k) refl
+
+-- nor has it an exit
+pub unstarted_unended : (h : History) → Lawful h → (n : ℕ) → starts h ≤ n → has_exit n h ≡ false
+unstarted_unended [] l n le = refl
+unstarted_unended (e ∷ before) l n le = go e.event (in_order-of e.moment e.event before l.0.ordered) le (λ k. unstarted_unended before l.1 n k)
+  where
+    go : (event : Event) → IsTrue (in_order event before) → starts (record { moment = e.moment; event = event } ∷ before) ≤ n →
+        (starts before ≤ n → has_exit n before ≡ false) → (is_exit_of n event || has_exit n before) ≡ false
+    go (Event.Start run req slot reg kind attempt) i k ih = let more : starts before + 1 ≤ n = k in ih (omega arith)
+    go (Event.Exit run exit listed) i k ih =
+        let other : (n == run.0) ≡ false = ne_eqb n run.0 (λ g. none_some (started run.0 before) (fresh_start before l.1 run.0 (omega (arith, g))) i) in
+        rw (other, ih k) refl
+    go _ i k ih = ih k
+
+-- operations are numbered below the next request
+pub operations-small : (h : History) → Lawful h → AllByRecursion (λ o. o < asks h) (operations h)
+operations-small [] l = tt
+operations-small (e ∷ before) l = go e.event (in_order-of e.moment e.event before l.0.ordered) (operations-small before l.1)
+  where
+    go : (event : Event) → IsTrue (in_order event before) → AllByRecursion (λ o. o < asks before) (operations before) →
+        AllByRecursion (λ o. o < asks (record { moment = e.moment; event = event } ∷ before)) (append_some (operations before) (operation_here event))
+    go (Event.Ask req lead client kind target total coin scope) i ih = ask (req.0 == lead.0)
+      where
+        n : req.0 ≡ asks before
+        n = eqb-true req.0 (asks before) (and-left _ _ (and-left _ _ (and-left _ _ (and-left _ _ i))))
+
+        more : AllByRecursion (λ o. o < asks before + 1) (operations before)
+        more = each-map _ _ (operations before) (λ o k. omega arith) ih
+
+        ask : (b : Bool) → AllByRecursion (λ o. o < asks before + 1) (append_some (operations before) (cond b (Some req.0) None))
+        ask true = each-append _ (operations before) req.0 more (omega (arith, n))
+        ask false = more
+    go _ i ih = ih
+
+-- so are those that are open
+pub open-small : (h : History) → Lawful h → AllByRecursion (λ (p : Operation). p.req < asks h) (open_operations h)
+open-small h l = go (filter (λ o. is_open o h) (operations h)) (each-filter _ (λ o. is_open o h) (operations h) (operations-small h l))
+  where
+    here : (o : ℕ) (x : Option Operation) → operation o h ≡ x → o < asks h → (xs : List Operation) → AllByRecursion (λ (p : Operation). p.req < asks h) xs →
+        AllByRecursion (λ (p : Operation). p.req < asks h) (cons_option x xs)
+    here o None e k xs a = a
+    here o (Some p) e k xs a = let r : p.req ≡ o = operation-req o h p e in (omega (arith, r, k), a)
+
+    go : (os : List ℕ) → AllByRecursion (λ o. o < asks h) os → AllByRecursion (λ (p : Operation). p.req < asks h) (filter_map (λ o. operation o h) os)
+    go [] a = tt
+    go (o ∷ os) a = here o (operation o h) refl a.0 (filter_map (λ o. operation o h) os) (go os a.1)
+
+-- a lead is no request to come
+lead-small : (m : ℕ) (lead req : ℕ) (h : History) (kind : Kind) (target : List ℕ) → Lawful h → req ≡ asks h →
+    lead ≡ unwrap_or (option_map (λ (o : Operation). o.req) (joined h m kind target)) req → lead < asks h + 1
+lead-small m lead req h kind target l n e = go (joined h m kind target) refl e
+  where
+    go : (x : Option Operation) → joined h m kind target ≡ x → lead ≡ unwrap_or (option_map (λ (o : Operation). o.req) x) req → lead < asks h + 1
+    go None j f = omega (arith, f, n)
+    go (Some p) j f =
+        let k : p.req < asks h = found-each (λ (p : Operation). p.req < asks h) (is_joinable h m kind target) (open_operations h) p (open-small h l) j in
+        omega (arith, f, k)
+
+-- no operation to come has requests
+pub unasked_unrequested : (h : History) → Lawful h → (n : ℕ) → asks h ≤ n → requests n h ≡ []
+unasked_unrequested [] l n le = refl
+unasked_unrequested (e ∷ before) l n le = go e.event (in_order-of e.moment e.event before l.0.ordered) l.0.prompted le (λ k. unasked_unrequested before l.1 n k)
+  where
+    go : (event : Event) → IsTrue (in_order event before) → IsTrue (prompt (record { moment = e.moment; event = event }) before) →
+        asks (record { moment = e.moment; event = event } ∷ before) ≤ n → (asks before ≤ n → requests n before ≡ []) →
+        append_some (requests n before) (request_here n event) ≡ []
+    go (Event.Ask req lead client kind target total coin scope) i p k ih =
+        let more : asks before + 1 ≤ n = k in
+        let new : req.0 ≡ asks before = eqb-true req.0 (asks before) (and-left _ _ (and-left _ _ (and-left _ _ (and-left _ _ i)))) in
+        let small : lead.0 < asks before + 1 = lead-small e.moment lead.0 req.0 before kind target l.1 new (eqb-true lead.0 (unwrap_or (option_map (λ (o : Operation). o.req) (joined before e.moment kind target)) req.0) (and-right (settled before e.moment && settled_since before) _ p)) in
+        let other : (n == lead.0) ≡ false = ne_eqb n lead.0 (λ g. omega (arith, small, more, g)) in
+        rw other (ih (omega arith))
+    go _ i p k ih = ih k
