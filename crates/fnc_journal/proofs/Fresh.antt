@@ -1,13 +1,14 @@
 -- Of a number to come a lawful journal knows nothing: no request, no reply, no run, no exit.
-use Rattle.std.proofs.Common.{ℕ, List, [], ◌∷◌, ◌++◌, Bool, true, false, ◌≡◌, ◌≤◌, ◌<◌, ◌+◌, refl, ap, sym, ◌∙◌, subst, Option, Some, None, IsTrue, arith, ◌==◌, ◌||◌, ◌&&◌, not, cond, eqb-true, ne_eqb, eq-eqb, is_some}
+use Rattle.std.proofs.Common.{ℕ, List, [], ◌∷◌, ◌++◌, Bool, true, false, ◌≡◌, ◌≤◌, ◌<◌, ◌+◌, refl, ap, sym, ◌∙◌, subst, Option, Some, None, IsTrue, arith, ◌==◌, ◌||◌, ◌&&◌, not, cond, eqb-true, ne_eqb, eq-eqb, is_some, length}
 use Rattle.std.specs.Prelude.{option_map, unwrap_or, filter, filter_map, find, option_and_then}
 use Rattle.std.specs.List.{AllByRecursion, cons_option}
 use Rattle.fnc_journal.specs.declared.entry.Event.{Event}
 use Rattle.fnc_journal.specs.declared.entry.Kind.{Kind}
 use Rattle.fnc_journal.specs.History.{History}
 use Rattle.fnc_journal.specs.Missing.{or_here, append_some}
-use Rattle.fnc_journal.specs.Found.{Asked, asked, asks, starts, Started, started, started_here, is_answered, is_reply_to, has_exit, is_exit_of}
+use Rattle.fnc_journal.specs.Found.{Asked, asked, asks, starts, Started, started, started_here, is_answered, is_reply_to, has_exit, is_exit_of, is_ask, is_start}
 use Rattle.fnc_journal.specs.Slots.{Operation}
+use Rattle.fnc_journal.specs.Acts.{Act, acts, act_here, cons_act}
 use Rattle.fnc_journal.specs.Operations.{requests, request_here, operations, operation_here, operation, is_open, open_operations, joined, is_joinable, settled}
 use Rattle.fnc_journal.specs.Lawful.{Lawful, in_order, prompt, settled_since}
 use Rattle.fnc_journal.proofs.Each.{each-map, each-append, each-filter, found-each}
@@ -121,3 +122,41 @@ unasked_unrequested (e ∷ before) l n le = go e.event (in_order-of e.moment e.e
         let other : (n == lead.0) ≡ false = ne_eqb n lead.0 (λ g. omega (arith, small, more, g)) in
         rw other (ih (omega arith))
     go _ i p k ih = ih k
+
+operation-none : (o : ℕ) (h : History) → asked o h ≡ None → operation o h ≡ None
+operation-none o h e = rw e refl
+
+-- no operation to come has runs
+pub unasked_idle : (h : History) → Lawful h → (o : ℕ) → asks h ≤ o → acts o h ≡ []
+unasked_idle [] l o le = refl
+unasked_idle (e ∷ before) l o le = go e.event (in_order-of e.moment e.event before l.0.ordered) le (λ k. unasked_idle before l.1 o k)
+  where
+    go : (event : Event) → IsTrue (in_order event before) → asks (record { moment = e.moment; event = event } ∷ before) ≤ o → (asks before ≤ o → acts o before ≡ []) →
+        cons_act (act_here o e.moment (acts o before) event) (acts o before) ≡ []
+    go (Event.Start run req slot reg kind attempt) i k ih = whose (o == req.0) refl
+      where
+        whose : (b : Bool) → (o == req.0) ≡ b → cons_act (cond b (Some (Act.Begun e.moment run.0 slot)) None) (acts o before) ≡ []
+        whose true q =
+            let same : o ≡ req.0 = eqb-true o req.0 q in
+            absurd (none_some (operation req.0 before) (operation-none req.0 before (fresh_ask before l.1 req.0 (omega (arith, same, k)))) (and-right _ _ (and-left _ _ i)))
+        whose false q = ih k
+    go (Event.Exit run exit listed) i k ih = rw (ih k) refl
+    go (Event.Ask req lead client kind target total coin scope) i k ih = let more : asks before + 1 ≤ o = k in ih (omega arith)
+    go _ i k ih = ih k
+
+-- no more are counted than there are entries
+pub asks-most : (h : History) → asks h ≤ length h
+asks-most [] = omega arith
+asks-most (e ∷ before) = go (is_ask e.event) (asks-most before)
+  where
+    go : (b : Bool) → asks before ≤ length before → cond b (asks before + 1) (asks before) ≤ length (e ∷ before)
+    go true k = omega arith
+    go false k = omega arith
+
+pub starts-most : (h : History) → starts h ≤ length h
+starts-most [] = omega arith
+starts-most (e ∷ before) = go (is_start e.event) (starts-most before)
+  where
+    go : (b : Bool) → starts before ≤ length before → cond b (starts before + 1) (starts before) ≤ length (e ∷ before)
+    go true k = omega arith
+    go false k = omega arith

@@ -13,6 +13,7 @@ pub mod AliveRuns
 pub mod Fresh
 pub mod Asking
 pub mod Running
+pub mod RunsOfOne
 pub mod Prefixes
 pub mod LawfulSteps
 pub mod DrivenSteps
