@@ -1,0 +1,12 @@
+// What stands outside the fencer's logic: sources of lines and sinks of bytes. Each is a trait whose
+// meaning stands in ghost members, with a count of faults, so that whoever is generic over it can say
+// what was read and what was written.
+#![tactic(auto)]
+
+mod line_buf;
+mod sink;
+mod source;
+
+pub use line_buf::LineBuf;
+pub use sink::{Sink, SinkFailed};
+pub use source::{Polled, Source};
