@@ -4,9 +4,11 @@
 #![tactic(auto)]
 
 mod line_buf;
+mod memory_source;
 mod sink;
 mod source;
 
 pub use line_buf::LineBuf;
+pub use memory_source::MemorySource;
 pub use sink::{Sink, SinkFailed};
 pub use source::{Polled, Source};
