@@ -1,5 +1,5 @@
 -- A text that has a byte begins with a line.
-use Rattle.std.proofs.Common.{◌≡◌, ◌+◌, ◌==◌, ℕ, List, [], ◌∷◌, Bool, true, false, if◌then◌else◌, take, drop, refl, add-one, suc, cond, length, count_by, ◌≤◌, arith, sym, ◌<◌, length-drop, drop-drop, length-take-le, ◌-◌, ◌∙◌, ap, subst}
+use Rattle.std.proofs.Common.{◌≡◌, ◌+◌, ◌==◌, ℕ, List, [], ◌∷◌, Bool, true, false, if◌then◌else◌, take, drop, refl, add-one, suc, length, count_by, ◌≤◌, arith, sym, ◌<◌, length-drop, drop-drop, ◌-◌, ◌∙◌, ap, subst}
 use Rattle.std.proofs.lemmas.List.{take_rest}
 use Rattle.std.proofs.lemmas.List.Recursion.{is_count_by}
 use Rattle.fnc_outside.specs.Lines.{put_first, lines_of, line_length}
@@ -44,13 +44,14 @@ cut_at text slice at size same within is short =
     let is_length : size ≡ line_length (drop at text) = is ∙ ap line_length seen in
     let short_here : size ≤ length (drop at text) = subst (λ xs. size ≤ length xs) seen short in
     let lines : lines_of (drop at text) ≡ take size (drop at text) ∷ lines_of (drop (at + (size + 1)) text) =
-      rw (is_length, some_cut (drop at text) some, drop-drop (line_length (drop at text) + 1) at text) refl in
+    rw (is_length, some_cut (drop at text) some, drop-drop (line_length (drop at text) + 1) at text) refl in
     subst (λ xs. IsCutAt text at xs size) (sym seen)
-      (record {
-        same = refl;
-        lines = lines;
-        one_less = rw lines (omega arith);
-        within = omega (arith, within, short_here, length-drop at text) })
+    (record {
+      same = refl;
+      lines = lines;
+      one_less = rw lines (omega arith);
+      within = omega (arith, within, short_here, length-drop at text);
+    })
 
 -- line feeds, counted along the text
 abbrev line_feeds : List ℕ → ℕ

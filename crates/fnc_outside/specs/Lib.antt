@@ -4,5 +4,6 @@ pub mod Faults
 pub mod Lines
 pub mod Polls
 pub mod Remembered
+pub mod Stored
 pub mod Told
 pub mod Writes

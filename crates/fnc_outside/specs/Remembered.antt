@@ -1,5 +1,5 @@
 -- What a source in memory is seen as.
-use Rattle.std.specs.Prelude.{ℕ, ◌==◌, ◌+◌, ◌-◌, ◌^◌, min, List, [], map, take, drop, Bool, if◌then◌else◌}
+use Rattle.std.specs.Prelude.{ℕ, ◌==◌, List, map, take, drop, Bool}
 use Rattle.std.specs.List.{list_any}
 use Rattle.fnc_outside.specs.Events.{Happening}
 use Rattle.fnc_outside.specs.Lines.{lines_of}

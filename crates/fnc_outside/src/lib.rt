@@ -4,11 +4,13 @@
 #![tactic(auto)]
 
 mod line_buf;
+mod memory_sink;
 mod memory_source;
 mod sink;
 mod source;
 
 pub use line_buf::LineBuf;
+pub use memory_sink::{MemorySink, Torn};
 pub use memory_source::MemorySource;
 pub use sink::{Sink, SinkFailed};
 pub use source::{Polled, Source};

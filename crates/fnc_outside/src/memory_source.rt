@@ -41,17 +41,16 @@ impl Model for MemorySource {
     ghost Value = { Remembered };
 
     ghost view = { λ s. record {
-        given = map (happening_of s.bytes.items) s.taken.items;
-        left = events_of (drop s.at s.bytes.items);
-        polls = s.polls;
-        failing = s.failing.items;
-        faults = s.faults
+      given = map (happening_of s.bytes.items) s.taken.items;
+      left = events_of (drop s.at s.bytes.items);
+      polls = s.polls;
+      failing = s.failing.items;
+      faults = s.faults;
     } };
 
     ghost invariant = { λ s.
         (s.at ≤ vec_len s.bytes + 1)
-        × (vec_len s.taken + length (lines_of (drop s.at s.bytes.items)) ≤ vec_capacity s.taken)
-    };
+        × (vec_len s.taken + length (lines_of (drop s.at s.bytes.items)) ≤ vec_capacity s.taken) };
 }
 
 /// Whether the number is listed.

@@ -1,9 +1,6 @@
-use Rattle.std.proofs.Common.{rules, ◌≡◌, ◌<◌, ◌≤◌, ◌+◌, ◌-◌, Some, [], ◌∷◌, length, map, IsTrue, if◌then◌else◌, vec_len, vec_capacity, ◌==◌, drop, take, ◌++◌, ◌≢◌, arith, length-drop, refl, ap, ◌∙◌, IsOk, is_ok, true, false}
+use Rattle.std.proofs.Common.{rules, ◌≡◌, ◌<◌, ◌≤◌, ◌-◌, length, IsTrue, vec_len, vec_capacity, drop, take, arith, refl, IsOk, is_ok, true, false}
 use Rattle.std.proofs.lemmas.List.{map-append}
-use Rattle.fnc_outside.specs.Events.{Happening}
-use Rattle.fnc_outside.specs.Lines.{lines_of}
-use Rattle.fnc_outside.specs.Remembered.{events_of, happening_of}
-use Rattle.fnc_outside.proofs.Cutting.{IsCutAt, cut_at}
+use Rattle.fnc_outside.proofs.Cutting.{cut_at}
 use Rattle.fnc_outside.proofs.memory_source.MemorySource.take_line.Goals as goal
 
 pub invariant_of-self : goal.invariant_of-self
@@ -43,7 +40,7 @@ returns-else-append-clause-takes c =
     let cut = cut_at _ _ _ _ c.as_slice.ensures.value within c.line_length-length.ensures.length c.line_length-length.ensures.within in
     let line = take c.line_length-length.result (take (length c.as_slice.result.now - c.self.inside.at) (drop c.self.inside.at c.as_slice.result.now)) in
     let long : ¬ (length line ≤ c.args.line.now.size) =
-      λ fits. let fitted : IsTrue false = c.if-append.ensures.fits.1 (rw c.requires.empty (omega (arith, fits))) in cc in
+    λ fits. let fitted : IsTrue false = c.if-append.ensures.fits.1 (rw c.requires.empty (omega (arith, fits))) in cc in
     (line, rw (← c.self.view_is, cut.lines) refl, rw c.if-append.ensures.full (omega (arith, long)))
 
 pub returns-else-append-clause-gives : goal.returns-else-append-clause-gives
