@@ -34,5 +34,5 @@ abbrev pub after_write : Stored → List ℕ → Stored
 after_write sink piece = record sink {
   held = (let part = part_of (kept_of sink.torn sink.writes) piece in if has_room sink part then sink.held ++ part else sink.held);
   writes = one_more sink.writes;
-  faults = if write_fails sink piece then one_more sink.faults else sink.faults
+  faults = if write_fails sink piece then one_more sink.faults else sink.faults;
 }

@@ -8,6 +8,8 @@ mod memory_sink;
 mod memory_source;
 mod sink;
 mod source;
+#[cfg(test)]
+mod tests;
 
 pub use line_buf::LineBuf;
 pub use memory_sink::{MemorySink, Torn};

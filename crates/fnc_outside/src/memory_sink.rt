@@ -36,11 +36,11 @@ impl Model for MemorySink {
     ghost Value = { Stored };
 
     ghost view = { λ s. record {
-        held = s.bytes.items;
-        size = s.size;
-        writes = s.writes;
-        torn = s.torn.items;
-        faults = s.faults
+      held = s.bytes.items;
+      size = s.size;
+      writes = s.writes;
+      torn = s.torn.items;
+      faults = s.faults;
     } };
 
     ghost invariant = { λ s. (vec_len s.bytes ≤ s.size) × (s.size ≤ vec_capacity s.bytes) × (s.size < 2 ^ 32) };
@@ -68,7 +68,13 @@ impl MemorySink {
         ensures torn { IfOk result (λ s. s.torn ≡ map (λ write. record { write = write; kept = 0 }) failing.now) }
         ensures faults { IfOk result (λ s. s.faults ≡ 0) }
     {
-        let torn = failing.iter().map(|write| Torn { write: *write, kept: 0 }).collect(alloc)?;
+        let torn = failing
+            .iter()
+            .map(|write| Torn {
+                write: *write,
+                kept: 0,
+            })
+            .collect(alloc)?;
         Ok(MemorySink {
             bytes: Vec::with_capacity(alloc, size as usize)?,
             size,
