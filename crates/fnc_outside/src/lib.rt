@@ -1,6 +1,6 @@
 // What stands outside the fencer's logic: sources of lines and sinks of bytes. Each is a trait whose
 // meaning stands in ghost members, with a count of faults, so that whoever is generic over it can say
-// what was read and what was written.
+// what was read and what was written. Beside each trait stands one that works in memory, for tests.
 #![tactic(auto)]
 
 mod line_buf;

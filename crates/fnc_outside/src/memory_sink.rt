@@ -1,6 +1,6 @@
 // A sink that keeps its bytes in memory, for tests.
 
-ghost use Rattle.std.specs.Prelude.{◌≡◌, ℕ, Some, [], IfOk, OnOk, OnErr, is_err, IsErr, length, ◌+◌, ◌≤◌, IsTrue, map, ◌++◌, if◌then◌else◌};
+ghost use Rattle.std.specs.Prelude.{◌≡◌, ◌++◌, [], Some, IfOk, OnOk, OnErr, IsErr, is_err, map, if◌then◌else◌};
 ghost use Rattle.fnc_outside.specs.Faults.{NeverFalls, Rose, one_more};
 ghost use Rattle.fnc_outside.specs.Stored.{kept_of, write_fails, after_write, has_room};
 ghost use Rattle.fnc_outside.specs.Told.{Gains};

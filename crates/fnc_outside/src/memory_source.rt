@@ -1,8 +1,7 @@
 // A source that gives the lines of a text in memory, for tests.
 
-ghost use Rattle.std.specs.Prelude.{◌≡◌, ◌<◌, ◌≤◌, ◌+◌, ◌^◌, ◌↔◌, ℕ, Some, [], length, map, IfOk, IsTrue, if◌then◌else◌, vec_len, vec_capacity, ◌==◌, drop, count_by, ◌++◌, ◌≢◌};
+ghost use Rattle.std.specs.Prelude.{◌≡◌, ◌≢◌, ◌≤◌, ◌↔◌, ◌==◌, ◌++◌, [], Some, IfOk, IsTrue, length, count_by, if◌then◌else◌};
 ghost use Rattle.std.specs.List.{list_any};
-ghost use Rattle.fnc_outside.specs.Events.{Happening};
 ghost use Rattle.fnc_outside.specs.Faults.{NeverFalls, one_more};
 ghost use Rattle.fnc_outside.specs.Lines as Lines;
 ghost use Rattle.fnc_outside.specs.Polls.{IsPolled, given_by, Leaves, HasCause, Takes};
@@ -34,7 +33,7 @@ pub struct MemorySource {
 }
 
 impl Model for MemorySource {
-    ghost use Rattle.std.specs.Prelude.{◌≤◌, ◌<◌, ◌+◌, ◌^◌, vec_len, vec_capacity, length, map, drop};
+    ghost use Rattle.std.specs.Prelude.{◌≤◌, ◌+◌, vec_len, vec_capacity, length, map, drop};
     ghost use Rattle.fnc_outside.specs.Lines.{lines_of};
     ghost use Rattle.fnc_outside.specs.Remembered.{Remembered, events_of, happening_of};
 
