@@ -76,3 +76,8 @@ abbrev pub end_line : History → List ℕ
 end_line h =
     codes "end asked " ++ decimal (asks h) ++ codes " answered " ++ decimal (replies h)
     ++ codes " alive " ++ decimal (length (alive_runs h)) ++ codes "\n"
+
+-- the line of the entry of an index, counted from the oldest
+abbrev pub line_at : ℕ → History → List ℕ
+line_at n [] = []
+line_at n (e ∷ before) = if n == length before then line_of e.event before else line_at n before
