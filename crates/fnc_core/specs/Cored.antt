@@ -83,5 +83,6 @@ pub record Starts (old new : Cored) (run : Run) : Type 0 where
   pub startable : Startable
   pub is_first : first old.history old.last ≡ Some startable
   pub history : new.history ≡ start_of old run startable ∷ old.history
+  pub fits : length new.history ≤ new.limit
   pub last : new.last ≡ old.last
   pub limit : new.limit ≡ old.limit

@@ -1,5 +1,6 @@
 // The core: one event of the fencer after another.
 
+ghost use Rattle.std.specs.Bool.{OnTrue, OnFalse};
 ghost use Rattle.std.specs.List.{list_any};
 ghost use Rattle.fnc_journal.specs.Found.{devices, asks};
 ghost use Rattle.fnc_journal.specs.Operations.{open_operations};
@@ -74,7 +75,8 @@ impl Core {
 
     /// The last moment, in milliseconds.
     pub fn last(&self) -> u64
-        ensures { result ≡ self.now.last }
+        ensures value { result ≡ self.now.last }
+        ensures early { result < 60_000 }
     {
         self.last
     }
@@ -100,7 +102,8 @@ impl Core {
 
     /// Whether a device is registered.
     pub fn has_device(&self) -> bool
-        ensures { IsTrue result ↔ (devices self.now.history ≡ 1) }
+        ensures yes { OnTrue result (devices self.now.history ≡ 1) }
+        ensures no { OnFalse result (devices self.now.history ≡ 0) }
     {
         self.has_device
     }

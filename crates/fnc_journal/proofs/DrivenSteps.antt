@@ -11,7 +11,7 @@ use Rattle.fnc_journal.specs.Driven.{last_input, before_advance, advances, is_at
 use Rattle.fnc_journal.specs.Served.{AtRest, AreReplies}
 
 -- a reply is no input
-reply-no_input : (event : Event) → is_reply event ≡ true → is_input event ≡ false
+pub reply-no_input : (event : Event) → is_reply event ≡ true → is_input event ≡ false
 reply-no_input (Event.Reply req answer) q = refl
 reply-no_input (Event.Device reg registration) q = cc
 reply-no_input (Event.Gone reg) q = cc

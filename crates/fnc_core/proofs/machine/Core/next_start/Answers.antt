@@ -76,11 +76,14 @@ returns-clause-some c =
     let s = start-is_first _ _ _ _ _ _ _ held c.in_ok-ready.ready first_is in
     let old : Cored = record { history = c.self.inside.journal.history; last = c.self.inside.last; limit = c.self.inside.journal.limit } in
     let new : Cored = record { history = c.push.new.self.history; last = c.self.inside.last; limit = c.push.new.self.limit } in
+    let below = start-fits _ _ _ _ _ _ _ held c.in_ok-ready.ready first_is in
+    let fits : length new.history ≤ new.limit = rw (c.push.ensures.history, c.push.ensures.limit) (omega (arith, below)) in
     let said : Starts old new (record { 0 = c.self.inside.next_run }) = record {
       startable = s.0;
       is_first = s.1;
       history = c.push.ensures.history ∙ ap (λ e. e ∷ c.self.inside.journal.history) (sym (start_of-as old c.self.inside.next_run s.0 c.in_ok-ready.ready s.2));
       last = refl;
       limit = c.push.ensures.limit;
+      fits = fits;
     } in
     subst (λ (v : Cored). Starts v new (record { 0 = c.self.inside.next_run })) c.self.view_is said

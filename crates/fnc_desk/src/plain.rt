@@ -1,0 +1,65 @@
+// The registration of a device without options.
+
+ghost use Rattle.std.specs.Prelude.{◌≡◌, IfOk, codes};
+ghost use Rattle.fnc_core.specs.Plain.{plain, default_allowed};
+
+use fnc_journal::{
+    Actions, Allowed, Base, Definition, HostCheck, NoMemory, Registration, Sequence, Text,
+};
+use std::alloc::Global;
+
+/// The default time of an action, in milliseconds.
+const TIME: u64 = 60_000;
+
+/// The default tries of an action.
+const TRIES: u8 = 2;
+
+fn allowed(alloc: Global, word: &str) -> Result<Allowed, NoMemory>
+    ensures { IfOk result (λ a. a ≡ default_allowed word.now) }
+{
+    Ok(Allowed {
+        word: Text::new(alloc, word)?,
+        time: TIME,
+        tries: TRIES,
+    })
+}
+
+fn definition(alloc: Global) -> Result<Definition, NoMemory>
+    ensures { IfOk result (λ d. d ≡ plain) }
+{
+    Ok(Definition {
+        actions: Actions {
+            on: true,
+            off: true,
+            reboot: true,
+            list: false,
+            status: false,
+        },
+        check: HostCheck::Nothing,
+        hosts: Sequence::new(alloc),
+        map: Sequence::new(alloc),
+        argument: Some(Text::new(alloc, "port")?),
+        cap: Some(1),
+        priority: 0,
+        base: Base::Fixed(0),
+        max: 0,
+        keep: 0,
+        on: allowed(alloc, "on")?,
+        off: allowed(alloc, "off")?,
+        reboot: allowed(alloc, "reboot")?,
+        list: allowed(alloc, "list")?,
+        status: allowed(alloc, "status")?,
+        own: Sequence::new(alloc),
+    })
+}
+
+/// The registration of a device of this name without options: its agent is `fence_model`.
+pub(crate) fn registration(alloc: Global, name: &str) -> Result<Registration, NoMemory>
+    ensures { IfOk result (λ r. r.definition ≡ plain) }
+{
+    Ok(Registration {
+        name: Text::new(alloc, name)?,
+        agent: Text::new(alloc, "fence_model")?,
+        definition: definition(alloc)?,
+    })
+}
