@@ -1,0 +1,4 @@
+pub mod Pieces
+pub mod Escapes
+pub mod Lines
+pub mod Tallies

@@ -1,0 +1,8 @@
+// The desk of a session, between the journal and what stands outside: the lines that are printed of it.
+#![tactic(auto)]
+
+mod output;
+mod printing;
+mod tally;
+
+pub use output::{print_end, print_from, print_line};
