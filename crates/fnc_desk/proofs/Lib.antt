@@ -1,1 +1,5 @@
 pub mod Entering
+pub mod Pieces
+pub mod Escapes
+pub mod Lines
+pub mod Tallies

@@ -21,6 +21,11 @@ abbrev pub is_ask : Event → Bool
 is_ask (Event.Ask req lead client kind target total coin scope) = true
 is_ask _ = false
 
+-- whether it is the request of a number
+abbrev pub is_ask_of : ℕ → Event → Bool
+is_ask_of r (Event.Ask req lead client kind target total coin scope) = r == req.0
+is_ask_of r _ = false
+
 -- whether it starts a run
 abbrev pub is_start : Event → Bool
 is_start (Event.Start run req slot reg kind attempt) = true

@@ -24,7 +24,7 @@ impl Model for Journal {
     ghost invariant = { λ j. (vec_len j.entries ≤ j.limit) × (j.limit ≤ vec_capacity j.entries) × (j.limit < 2 ^ 32) };
 }
 
-ghost use Rattle.std.specs.Prelude.{◌≡◌, ◌<◌, ◌≤◌, ◌∷◌, [], length, reverse, slice_get, Some, IfOk};
+ghost use Rattle.std.specs.Prelude.{◌≡◌, ◌<◌, ◌≤◌, ◌∷◌, [], length, find, reverse, slice_get, Some, IfOk};
 ghost use Rattle.std.specs.Option.{option_copied};
 ghost use Rattle.fnc_journal.specs.Found as Found;
 ghost use Rattle.fnc_journal.specs.Forward as Forward;
@@ -80,6 +80,14 @@ impl Journal {
         registration_in(&self.entries, reg)
     }
 
+    /// The newest entry that asks the request of a number, which in a lawful journal is the only one.
+    /// The search begins at the newest entry. None where there is none.
+    pub fn latest_ask(&self, req: Req) -> Option<&Entry>
+        ensures { option_copied result ≡ find (λ e. Found.is_ask_of req.0 e.event) self.now.history }
+    {
+        latest_ask_in(&self.entries, req)
+    }
+
     /// How many entries it may have.
     pub fn limit(&self) -> u32
         ensures { result ≡ self.now.limit }
@@ -115,6 +123,21 @@ fn registration_in(entries: &[Entry], reg: Reg) -> Option<&Registration>
         }
     }
     None
+}
+
+fn is_ask_of(event: &Event, req: Req) -> bool
+    ensures { result ≡ Found.is_ask_of req.0 event.now }
+{
+    match event {
+        Event::Ask { req: r, .. } => req.0 == r.0,
+        _ => false,
+    }
+}
+
+fn latest_ask_in(entries: &[Entry], req: Req) -> Option<&Entry>
+    ensures { option_copied result ≡ find (λ e. Found.is_ask_of req.0 e.event) (reverse entries.now) }
+{
+    entries.iter().rev().find(|e| is_ask_of(&e.event, req))
 }
 
 fn get_in(entries: &[Entry], index: u32) -> Option<&Entry>

@@ -1,0 +1,188 @@
+// What is printed of a journal, line by line: its starts, replies and refusals as they come, and how it
+// stands at the end.
+
+ghost use Rattle.std.specs.Prelude.{◌≡◌, ◌<◌, ◌≤◌, ◌++◌, ℕ, List, Option, OnOk, OnErr, length};
+ghost use Rattle.fnc_outside.specs.Faults.{Rose};
+ghost use Rattle.fnc_outside.specs.Told.{Gains};
+ghost use Rattle.fnc_outside.specs.Writes.{AppendsPart};
+ghost use Rattle.fnc_journal.specs.Lawful.{Lawful};
+ghost use Rattle.fnc_journal.specs.Line as Line;
+ghost use Rattle.fnc_journal.specs.Prefix.{prefix};
+ghost use Rattle.fnc_desk.specs.Printed.{Climbs, piece_text};
+ghost use Rattle.fnc_desk.specs.Searched as Searched;
+
+use crate::printing::{Piece, print_pieces};
+use crate::tally::{alive, counted};
+use fnc_journal::{Answer, Event, Journal, Kind, Reg, Req};
+use fnc_outside::{Sink, SinkFailed};
+
+fn kind_word(kind: Kind) -> &'static str
+    ensures { result.now ≡ Line.kind_word kind }
+{
+    match kind {
+        Kind::On => "on",
+        Kind::Off => "off",
+        Kind::Reboot => "reboot",
+        Kind::List => "list",
+        Kind::Status => "status",
+    }
+}
+
+/// The name of a registration, nothing where there is no such registration.
+fn name_of(journal: &Journal, reg: Reg) -> &str
+    ensures { result.now ≡ Line.name_of reg.0 journal.now.history }
+{
+    match journal.registration(reg) {
+        Some(registration) => registration.name.as_str(),
+        None => "",
+    }
+}
+
+fn ask_target(event: &Event) -> &str
+    ensures { result.now ≡ Searched.ask_target event.now }
+{
+    match event {
+        Event::Ask { target, .. } => target.as_str(),
+        _ => "",
+    }
+}
+
+/// The target of a request, nothing where there is no such request.
+fn target_of(journal: &Journal, req: Req) -> &str
+    requires { Lawful journal.now.history }
+    ensures { result.now ≡ Line.target_of req.0 journal.now.history }
+{
+    match journal.latest_ask(req) {
+        Some(entry) => ask_target(&entry.event),
+        None => "",
+    }
+}
+
+/// The words of an answer, in two pieces.
+fn answer_words(answer: Answer) -> (Piece<'static>, Piece<'static>)
+    ensures { piece_text result.0 ++ piece_text result.1 ≡ Line.answer_words answer }
+{
+    match answer {
+        Answer::Passed(level) => (Piece::Word("ok level "), Piece::Number(u32::from(level))),
+        Answer::Levels => (Piece::Word("failed "), Piece::Word("levels")),
+        Answer::Time => (Piece::Word("failed "), Piece::Word("time")),
+        Answer::NoDevice => (Piece::Word("failed "), Piece::Word("none")),
+        Answer::Confirmed => (Piece::Word("ok "), Piece::Word("confirmed")),
+    }
+}
+
+/// Prints the line of an event of the journal: of a start, a reply or a refusal; no byte of any other.
+fn print_event<K: Sink>(journal: &Journal, event: &Event, sink: &mut K) -> Result<(), SinkFailed>
+    requires { Lawful journal.now.history }
+    ensures ok { OnOk result (Gains (K.held sink.old) (K.held sink.new) (Line.line_of event.now journal.now.history)) }
+    ensures err { OnErr result (AppendsPart (K.held sink.old) (K.held sink.new) (Line.line_of event.now journal.now.history)) }
+    ensures count { Climbs (K.faults sink.old) (K.faults sink.new) }
+    ensures cause { OnErr result (Rose (K.faults sink.old) (K.faults sink.new)) }
+{
+    match event {
+        Event::Start {
+            run,
+            req,
+            reg,
+            kind,
+            attempt,
+            ..
+        } => print_pieces(
+            &[
+                Piece::Word("start "),
+                Piece::Number(run.0),
+                Piece::Word(" "),
+                Piece::Name(name_of(journal, *reg)),
+                Piece::Word(" "),
+                Piece::Word(kind_word(*kind)),
+                Piece::Word(" "),
+                Piece::Name(target_of(journal, *req)),
+                Piece::Word(" try "),
+                Piece::Number(u32::from(*attempt)),
+                Piece::Word("\n"),
+            ],
+            sink,
+        ),
+        Event::Reply { req, answer } => {
+            let (first, second) = answer_words(*answer);
+            print_pieces(
+                &[
+                    Piece::Word("answer "),
+                    Piece::Number(req.0),
+                    Piece::Word(" "),
+                    first,
+                    second,
+                    Piece::Word("\n"),
+                ],
+                sink,
+            )
+        }
+        Event::Refused { line, cause } => print_pieces(
+            &[
+                Piece::Word("refused "),
+                Piece::Number(*line),
+                Piece::Word(" "),
+                Piece::Word(cause.word()),
+                Piece::Word("\n"),
+            ],
+            sink,
+        ),
+        _ => Ok(()),
+    }
+}
+
+/// Prints the line of the entry of an index, counted from 0 at the oldest. Where a write fails a part
+/// from the front of the line was printed.
+pub fn print_line<K: Sink>(journal: &Journal, index: u32, sink: &mut K) -> Result<(), SinkFailed>
+    requires lawful { Lawful journal.now.history }
+    requires within { index < length journal.now.history }
+    ensures ok { OnOk result (Gains (K.held sink.old) (K.held sink.new) (Line.line_at index journal.now.history)) }
+    ensures err { OnErr result (AppendsPart (K.held sink.old) (K.held sink.new) (Line.line_at index journal.now.history)) }
+    ensures count { Climbs (K.faults sink.old) (K.faults sink.new) }
+    ensures cause { OnErr result (Rose (K.faults sink.old) (K.faults sink.new)) }
+{
+    print_event(journal, &journal.entry(index).event, sink)
+}
+
+/// Prints the lines of the entries from an index on. Where the sink holds what is printed of the
+/// entries before, it then holds what is printed of the whole journal, or a part from the front of it
+/// where a write failed.
+pub fn print_from<K: Sink>(journal: &Journal, from: u32, sink: &mut K) -> Result<(), SinkFailed>
+    requires lawful { Lawful journal.now.history }
+    requires within { from ≤ length journal.now.history }
+    ensures ok { (start : Option (List ℕ)) → Gains start (K.held sink.old) (Line.answers_text (prefix from journal.now.history))
+        → OnOk result (Gains start (K.held sink.new) (Line.answers_text journal.now.history)) }
+    ensures err { (start : Option (List ℕ)) → Gains start (K.held sink.old) (Line.answers_text (prefix from journal.now.history))
+        → OnErr result (AppendsPart start (K.held sink.new) (Line.answers_text journal.now.history)) }
+    ensures count { Climbs (K.faults sink.old) (K.faults sink.new) }
+    ensures cause { OnErr result (Rose (K.faults sink.old) (K.faults sink.new)) }
+{
+    for index in from..journal.len() {
+        print_line(journal, index, sink)?;
+    }
+    Ok(())
+}
+
+/// Prints the last line of a session: how many requests were asked and answered, and how many runs are
+/// alive.
+pub fn print_end<K: Sink>(journal: &Journal, sink: &mut K) -> Result<(), SinkFailed>
+    requires { Lawful journal.now.history }
+    ensures ok { OnOk result (Gains (K.held sink.old) (K.held sink.new) (Line.end_line journal.now.history)) }
+    ensures err { OnErr result (AppendsPart (K.held sink.old) (K.held sink.new) (Line.end_line journal.now.history)) }
+    ensures count { Climbs (K.faults sink.old) (K.faults sink.new) }
+    ensures cause { OnErr result (Rose (K.faults sink.old) (K.faults sink.new)) }
+{
+    let tally = counted(journal);
+    print_pieces(
+        &[
+            Piece::Word("end asked "),
+            Piece::Number(tally.asked),
+            Piece::Word(" answered "),
+            Piece::Number(tally.answered),
+            Piece::Word(" alive "),
+            Piece::Number(alive(journal, tally)),
+            Piece::Word("\n"),
+        ],
+        sink,
+    )
+}
