@@ -1,0 +1,271 @@
+-- How a line, served in full, leaves the session at rest.
+use Rattle.std.proofs.Common.{ℕ, List, [], ◌∷◌, ◌++◌, Bool, true, false, ◌≡◌, ◌≤◌, ◌<◌, refl, ap, sym, ◌∙◌, subst, Option, Some, None, IsTrue, arith, inl, inr, ◌==◌, eq-eqb, eqb-true, false-eqb, ap₂, ◌+◌, length, length-append, append-nil}
+use Rattle.std.specs.Prelude.{◌⊎◌}
+use Rattle.std.specs.List.{AllByRecursion}
+use Rattle.fnc_journal.specs.declared.entry.Entry.{Entry}
+use Rattle.fnc_journal.specs.declared.entry.Event.{Event}
+use Rattle.fnc_journal.specs.declared.entry.Run.{Run}
+use Rattle.fnc_journal.specs.declared.outcome.Full.{Full}
+use Rattle.fnc_journal.specs.declared.outcome.Outcome.{Outcome}
+use Rattle.fnc_journal.specs.History.{History, Journaled}
+use Rattle.fnc_journal.specs.Owed.{owed}
+use Rattle.fnc_journal.specs.Found.{is_input, is_reply, is_start}
+use Rattle.fnc_journal.specs.Lawful.{Lawful, in_order, last_moment}
+use Rattle.fnc_journal.specs.Driven.{Driven, DrivenInputs, last_input, is_at_once, rests, rests_before}
+use Rattle.fnc_journal.specs.Served.{AtRest, AreReplies}
+use Rattle.fnc_journal.proofs.Lawfulness.{in_order-of}
+use Rattle.fnc_journal.proofs.DrivenSteps.{reply-no_input, rests-next, rests-same, rests-end, rests_before-output}
+use Rattle.fnc_core.specs.Cored.{Cored, Sound, Starts, start_of}
+use Rattle.fnc_desk.specs.Entered.{TakesLine, PassesTime, IsFullLine}
+use Rattle.fnc_replay.specs.Rests.{Rests, AreStarts, StartsSome, StartsAll, ServesLine}
+use Rattle.fnc_replay.specs.Session.{Wrote, EndsBy, HasCause, IsServed, Turns, Gave, cored}
+use Rattle.fnc_outside.specs.Events.{Happening}
+use Rattle.fnc_outside.specs.Told.{Gains}
+use Rattle.fnc_outside.proofs.Telling.{gains-gains, then-rose}
+
+start-no_input : (event : Event) → is_start event ≡ true → is_input event ≡ false
+start-no_input (Event.Start run req slot reg kind attempt) q = refl
+start-no_input (Event.Device reg registration) q = cc
+start-no_input (Event.Gone reg) q = cc
+start-no_input (Event.Level target index devices) q = cc
+start-no_input (Event.LevelGone target index) q = cc
+start-no_input (Event.Agent name description) q = cc
+start-no_input (Event.Ask req lead client kind target total coin scope) q = cc
+start-no_input (Event.Exit run exit listed) q = cc
+start-no_input Event.Pass q = cc
+start-no_input (Event.Confirm client target) q = cc
+start-no_input (Event.Refused line cause) q = cc
+start-no_input (Event.Reply req answer) q = cc
+
+-- outputs of one moment
+abbrev AreOutputs : ℕ → History → Type 0
+AreOutputs m xs = AllByRecursion (λ e. (is_input e.event ≡ false) × (e.moment ≡ m)) xs
+
+outputs-starts : (m : ℕ) (xs : History) → AreStarts m xs → AreOutputs m xs
+outputs-starts m [] a = tt
+outputs-starts m (x ∷ xs) a = ((start-no_input x.event a.0.0, a.0.1), outputs-starts m xs a.1)
+
+outputs-replies : (m : ℕ) (xs : History) → AreReplies m xs → AreOutputs m xs
+outputs-replies m [] a = tt
+outputs-replies m (x ∷ xs) a = ((reply-no_input x.event a.0.0, a.0.1), outputs-replies m xs a.1)
+
+-- outputs change neither the last input nor that each input was served
+last_input-outputs : (m : ℕ) (xs h : History) → AreOutputs m xs → last_input (xs ++ h) ≡ last_input h
+last_input-outputs m [] h a = refl
+last_input-outputs m (x ∷ xs) h a = rw a.0.0 (last_input-outputs m xs h a.1)
+
+at_once-outputs : (m : ℕ) (xs h : History) → AreOutputs m xs → is_at_once m h ≡ true → is_at_once m (xs ++ h) ≡ true
+at_once-outputs m [] h a o = o
+at_once-outputs m (x ∷ xs) h a o = let same : (x.moment == m) ≡ true = eq-eqb x.moment m a.0.1 in rw (a.0.0, same) (at_once-outputs m xs h a.1 o)
+
+inputs-outputs : (m : ℕ) (xs h : History) → AreOutputs m xs → DrivenInputs h → DrivenInputs (xs ++ h)
+inputs-outputs m [] h a d = d
+inputs-outputs m (x ∷ xs) h a d = (rests_before-output x (xs ++ h) a.0.0, inputs-outputs m xs h a.1 d)
+
+Lawful-drop : (xs ys : History) → Lawful (xs ++ ys) → Lawful ys
+Lawful-drop [] ys l = l
+Lawful-drop (x ∷ xs) ys l = Lawful-drop xs ys l.1
+
+-- before the first input nothing is answered
+replies-none : (m : ℕ) (rs : History) → Lawful rs → AreReplies m rs → rs ≡ []
+replies-none m [] l a = refl
+replies-none m (r ∷ rs) l a = absurd (go rs (replies-none m rs l.1 a.1) r.event (in_order-of r.moment r.event rs l.0.ordered) a.0.0)
+  where
+    go : (before : History) → before ≡ [] → (event : Event) → IsTrue (in_order event before) → is_reply event ≡ true → ⊥
+    go [] e (Event.Reply req answer) i q = cc
+    go [] e (Event.Device reg registration) i q = cc
+    go [] e (Event.Gone reg) i q = cc
+    go [] e (Event.Level target index devices) i q = cc
+    go [] e (Event.LevelGone target index) i q = cc
+    go [] e (Event.Agent name description) i q = cc
+    go [] e (Event.Ask req lead client kind target total coin scope) i q = cc
+    go [] e (Event.Exit run exit listed) i q = cc
+    go [] e Event.Pass i q = cc
+    go [] e (Event.Confirm client target) i q = cc
+    go [] e (Event.Refused line cause) i q = cc
+    go [] e (Event.Start run req slot reg kind attempt) i q = cc
+    go (d ∷ before) e event i q = cc
+
+empty-append : (xs ys : History) → ys ≡ [] → xs ++ ys ≡ xs
+empty-append [] ys e = e
+empty-append (x ∷ xs) ys e = ap (λ zs. x ∷ zs) (empty-append xs ys e)
+
+-- an input finds the one before it served
+served-before : (old : Cored) (m : ℕ) (rs : History) → Rests old → old.last ≤ m → (old.last ≡ m → rs ≡ []) → AreReplies m rs → Lawful (rs ++ old.history) → rests (Some m) (rs ++ old.history) ≡ true
+served-before old m rs r later still a l = go r.rest
+  where
+    rest : AtRest old.last old.history → (old.last ≡ m) ⊎ (old.last < m) → rests (Some m) (rs ++ old.history) ≡ true
+    rest t (inl e) = ap (λ xs. rests (Some m) (xs ++ old.history)) (still e) ∙ rests-same old.last (Some m) old.history t
+    rest t (inr k) = rests-next old.last m rs old.history k a t
+
+    either : (a b : ℕ) → a ≤ b → (a ≡ b) ⊎ (a < b)
+    either a b k = pick (a == b) refl
+      where
+        pick : (c : Bool) → (a == b) ≡ c → (a ≡ b) ⊎ (a < b)
+        pick true e = inl (eqb-true a b e)
+        pick false e = let other : a ≡ b → ⊥ = false-eqb a b (sym e) in inr (omega (arith, k, other))
+
+    go : (old.history ≡ []) ⊎ AtRest old.last old.history → rests (Some m) (rs ++ old.history) ≡ true
+    go (inl e) =
+        let none : rs ≡ [] = replies-none m rs (subst Lawful (empty-append rs old.history e) l) a in
+        ap (rests (Some m)) (empty-append rs old.history e ∙ none)
+    go (inr t) = rest t (either old.last m later)
+
+-- a line that was entered and whose starts were made is served
+pub rests-served : (old mid new : Cored) → Rests old → TakesLine old mid → StartsAll mid new → Sound new → Rests new
+rests-served old mid new r t s k = record { inputs = subst DrivenInputs (sym whole) driven; rest = inr (record { last = last_is; at_once = once; settled_now = k.settled_now; idle = s.idle }) }
+  where
+    lead : History
+    lead = t.takes.enters.advance ++ old.history
+
+    input : Entry
+    input = record { moment = t.moment; event = t.takes.event }
+
+    outputs : AreOutputs t.moment t.takes.enters.replies
+    outputs = outputs-replies t.moment t.takes.enters.replies t.takes.enters.answered
+
+    starts : AreOutputs t.moment s.some.starts
+    starts = outputs-starts t.moment s.some.starts (subst (λ n. AreStarts n s.some.starts) t.takes.enters.last s.some.started)
+
+    whole : new.history ≡ s.some.starts ++ (t.takes.enters.replies ++ input ∷ lead)
+    whole = s.some.history ∙ ap (λ (h : History). s.some.starts ++ h) t.takes.enters.history
+
+    now : new.last ≡ t.moment
+    now = s.some.last ∙ t.takes.enters.last
+
+    lawful : Lawful lead
+    lawful = (Lawful-drop t.takes.enters.replies (input ∷ lead) (Lawful-drop s.some.starts (t.takes.enters.replies ++ input ∷ lead) (subst Lawful whole k.lawful))).1
+
+    served : IsTrue (rests_before input lead)
+    served =
+        let is : is_input input.event ≡ true = t.takes.input in
+        rw is (served-before old t.moment t.takes.enters.advance r t.later t.takes.enters.still t.takes.enters.at_once lawful)
+
+    driven : DrivenInputs (s.some.starts ++ (t.takes.enters.replies ++ input ∷ lead))
+    driven =
+        inputs-outputs t.moment s.some.starts (t.takes.enters.replies ++ input ∷ lead) starts
+        (inputs-outputs t.moment t.takes.enters.replies (input ∷ lead) outputs
+        (served, inputs-outputs t.moment t.takes.enters.advance old.history (outputs-replies t.moment t.takes.enters.advance t.takes.enters.at_once) r.inputs))
+
+    last_here : last_input (input ∷ lead) ≡ Some t.moment
+    last_here = let is : is_input input.event ≡ true = t.takes.input in rw is refl
+
+    last_is : last_input new.history ≡ Some new.last
+    last_is =
+        ap last_input whole
+        ∙ last_input-outputs t.moment s.some.starts (t.takes.enters.replies ++ input ∷ lead) starts
+        ∙ last_input-outputs t.moment t.takes.enters.replies (input ∷ lead) outputs
+        ∙ last_here
+        ∙ ap Some (sym now)
+
+    once_here : is_at_once t.moment (input ∷ lead) ≡ true
+    once_here = let is : is_input input.event ≡ true = t.takes.input in rw is refl
+
+    once : is_at_once new.last new.history ≡ true
+    once =
+        ap (λ n. is_at_once n new.history) now
+        ∙ ap (is_at_once t.moment) whole
+        ∙ at_once-outputs t.moment s.some.starts (t.takes.enters.replies ++ input ∷ lead) starts
+          (at_once-outputs t.moment t.takes.enters.replies (input ∷ lead) outputs once_here)
+
+-- at rest the journal is Driven
+pub driven-rests : (v : Cored) → Rests v → Driven v.history
+driven-rests v r = (go r.rest, r.inputs)
+  where
+    go : (v.history ≡ []) ⊎ AtRest v.last v.history → rests None v.history ≡ true
+    go (inl e) = ap (rests None) e
+    go (inr t) = rests-same v.last None v.history t
+
+-- and after one more advance
+pub driven-passed : (old new : Cored) → Rests old → PassesTime old new → Sound new → Driven new.history
+driven-passed old new r p k = (subst (λ h. rests None h ≡ true) (sym p.advances.history) (go r.rest), subst DrivenInputs (sym p.advances.history) driven)
+  where
+    driven : DrivenInputs (p.advances.advance ++ old.history)
+    driven = inputs-outputs p.moment p.advances.advance old.history (outputs-replies p.moment p.advances.advance p.advances.at_once) r.inputs
+
+    rest : AtRest old.last old.history → (b : Bool) → (old.last == p.moment) ≡ b → rests None (p.advances.advance ++ old.history) ≡ true
+    rest t true e = ap (λ (xs : History). rests None (xs ++ old.history)) (p.advances.still (eqb-true old.last p.moment e)) ∙ rests-same old.last None old.history t
+    rest t false e =
+        let other : old.last ≡ p.moment → ⊥ = false-eqb old.last p.moment (sym e) in
+        rests-end old.last p.moment p.advances.advance old.history (omega (arith, p.later, other)) p.advances.at_once t
+
+    go : (old.history ≡ []) ⊎ AtRest old.last old.history → rests None (p.advances.advance ++ old.history) ≡ true
+    go (inl e) =
+        let none : p.advances.advance ≡ [] =
+              replies-none p.moment p.advances.advance (subst Lawful (empty-append p.advances.advance old.history e) (subst Lawful p.advances.history k.lawful)) p.advances.at_once in
+        ap (rests None) (empty-append p.advances.advance old.history e ∙ none)
+    go (inr t) = rest t (old.last == p.moment) refl
+
+-- no start yet, and one more
+pub starts-none : (v : Cored) → StartsSome v v
+starts-none v = record { starts = []; started = tt; history = refl; last = refl; limit = refl }
+
+pub starts-more : (old mid new : Cored) (run : Run) → StartsSome old mid → Starts mid new run → StartsSome old new
+starts-more old mid new run a b = record {
+  starts = start_of mid run b.startable ∷ a.starts;
+  started = ((refl, a.last), a.started);
+  history = b.history ∙ ap (λ h. start_of mid run b.startable ∷ h) a.history;
+  last = b.last ∙ a.last;
+  limit = b.limit ∙ a.limit;
+}
+
+-- what a turn that served a line, or found no room for it, leaves
+pub turns-served : (r : Option Outcome) (old new : Cored) → ServesLine old new → Sound new → Turns r old new
+turns-served None old new s k = λ r. rests-served old s.mid new r s.takes s.starts k
+turns-served (Some outcome) old new s k = λ r. driven-rests new (rests-served old s.mid new r s.takes s.starts k)
+
+-- a journal that is handed back
+pub served-driven : (v : Cored) → Sound v → Driven v.history → IsServed v.history
+served-driven v k d = record { lawful = k.lawful; calm = k.calm; settled_then = k.settled_then; driven = d }
+
+-- what a turn says holds of the session so far
+pub wrote-later : (o : Outcome) (before after : Option (List ℕ)) (f g k : ℕ) (h : History) → f ≤ g → Wrote o before after g k h → Wrote o before after f k h
+wrote-later Outcome.Finished before after f g k h l w = w
+wrote-later Outcome.WriteFault before after f g k h l w = w
+wrote-later Outcome.ReadFault before after f g k h l w = w
+wrote-later Outcome.Budget before after f g k h l w = w
+wrote-later (Outcome.JournalFull full) before after f g k h l w = elim w [ inl w ↦ inl w | inr w ↦ inr (then-rose f g k l w.0, w.1) ]
+wrote-later Outcome.Usage before after f g k h l w = w
+wrote-later Outcome.NoMemory before after f g k h l w = w
+wrote-later (Outcome.Unlawful index rule) before after f g k h l w = w
+wrote-later (Outcome.BadEntry line) before after f g k h l w = w
+
+full-cored : (v : Cored) (j : Journaled) (full : Full) → j.history ≡ v.history → j.limit ≡ v.limit → IsFullLine v full → IsFullLine (cored j) full
+full-cored v j full e l f =
+    let moved : (h : History) (limit : ℕ) → h ≡ v.history → limit ≡ v.limit → IsFullLine v full → IsFullLine (record { history = h; last = last_moment h; limit = limit }) full =
+          λ h limit e l f. record {
+            need_of = f.need_of;
+            is_full = record {
+              says = f.is_full.says ∙ ap₂ (λ (x : History) (n : ℕ). record { entries = length x; owed = owed x; need = full.need; limit = n }) (sym e) (sym l);
+              above = subst (λ (x : History). limit < length x + owed x + full.need) (sym e) (subst (λ n. n < length v.history + owed v.history + full.need) (sym l) f.is_full.above)
+            }
+          } in
+    moved j.history j.limit e l f
+
+-- what ended a turn ended the session
+pub cause-of : (o : Outcome) (given given' left : Option (List Happening)) (reads reads0 reads' writes writes0 writes' : ℕ) (v : Cored) (j : Journaled) (made allowed : ℕ) →
+    reads ≤ reads0 → writes ≤ writes0 → j.history ≡ v.history → j.limit ≡ v.limit →
+    EndsBy o left reads0 reads' writes0 writes' v → HasCause o given given' left reads reads' writes writes' j made allowed
+cause-of Outcome.Finished given given' left reads reads0 reads' writes writes0 writes' v j made allowed r w h l e = e
+cause-of Outcome.ReadFault given given' left reads reads0 reads' writes writes0 writes' v j made allowed r w h l e = then-rose reads reads0 reads' r e
+cause-of Outcome.WriteFault given given' left reads reads0 reads' writes writes0 writes' v j made allowed r w h l e = then-rose writes writes0 writes' w e
+cause-of (Outcome.JournalFull full) given given' left reads reads0 reads' writes writes0 writes' v j made allowed r w h l e = full-cored v j full h l e
+cause-of Outcome.Budget given given' left reads reads0 reads' writes writes0 writes' v j made allowed r w h l e = absurd e
+cause-of Outcome.Usage given given' left reads reads0 reads' writes writes0 writes' v j made allowed r w h l e = e
+cause-of Outcome.NoMemory given given' left reads reads0 reads' writes writes0 writes' v j made allowed r w h l e = e
+cause-of (Outcome.Unlawful index rule) given given' left reads reads0 reads' writes writes0 writes' v j made allowed r w h l e = e
+cause-of (Outcome.BadEntry line) given given' left reads reads0 reads' writes writes0 writes' v j made allowed r w h l e = e
+
+-- nothing so far, and one event more
+pub gains-none : {A : Type 0} (told : Option (List A)) → Gains told told []
+gains-none None = tt
+gains-none (Some xs) = rw append-nil refl
+
+pub gave-none : (told : Option (List Happening)) → Gave told told 0
+gave-none told = record { events = []; gained = gains-none told; counted = refl }
+
+pub gave-more : (before between after : Option (List Happening)) (n : ℕ) → Gave before between n → Gave between after 1 → Gave before after (n + 1)
+gave-more before between after n a b = record {
+  events = a.events ++ b.events; gained = gains-gains before between after a.events b.events a.gained b.gained;
+  counted = let l = length-append a.events b.events in omega (arith, l, a.counted, b.counted)
+}

@@ -1,0 +1,86 @@
+-- What a session is worth at its end: what it wrote, and why it ended.
+use Rattle.std.specs.Prelude.{ℕ, List, [], ◌++◌, ◌≡◌, ◌⊎◌, length, true, Option, Some, None}
+use Rattle.fnc_journal.specs.declared.outcome.Outcome.{Outcome}
+use Rattle.fnc_journal.specs.History.{History, Journaled}
+use Rattle.fnc_journal.specs.Line.{answers_text, end_line}
+use Rattle.fnc_journal.specs.Lawful.{Lawful, Calm, last_moment}
+use Rattle.fnc_journal.specs.Operations.{settled}
+use Rattle.fnc_journal.specs.Driven.{Driven}
+use Rattle.fnc_outside.specs.Events.{Happening}
+use Rattle.fnc_outside.specs.Faults.{Rose}
+use Rattle.fnc_outside.specs.Told.{Gains}
+use Rattle.fnc_outside.specs.Writes.{AppendsPart}
+use Rattle.fnc_core.specs.Cored.{Cored}
+use Rattle.fnc_desk.specs.Entered.{IsFullLine}
+use Rattle.fnc_replay.specs.Rests.{Rests}
+
+-- What the sink gained, where it tells what it holds. A session that finished wrote the text and the end line;
+-- one whose write failed a part from the front of these; any other the text alone, or a part from the front of
+-- it where a write failed.
+abbrev pub Wrote : Outcome → Option (List ℕ) → Option (List ℕ) → ℕ → ℕ → History → Type 0
+Wrote Outcome.Finished before after faults faults' h = Gains before after (answers_text h ++ end_line h)
+Wrote Outcome.WriteFault before after faults faults' h = AppendsPart before after (answers_text h ++ end_line h)
+Wrote Outcome.ReadFault before after faults faults' h = Gains before after (answers_text h)
+Wrote Outcome.Budget before after faults faults' h = Gains before after (answers_text h)
+Wrote (Outcome.JournalFull full) before after faults faults' h =
+    Gains before after (answers_text h) ⊎ (Rose faults faults' × AppendsPart before after (answers_text h))
+Wrote Outcome.Usage before after faults faults' h = Gains before after []
+Wrote Outcome.NoMemory before after faults faults' h = Gains before after []
+Wrote (Outcome.Unlawful index rule) before after faults faults' h = ⊥
+Wrote (Outcome.BadEntry line) before after faults faults' h = ⊥
+
+-- nothing is left, where the source tells what is
+abbrev pub IsOver : Option (List Happening) → Type 0
+IsOver None = Unit {0}
+IsOver (Some events) = events ≡ []
+
+-- a source gave so many events
+pub record Gave (before after : Option (List Happening)) (count : ℕ) : Type 0 where
+  pub events : List Happening
+  pub gained : Gains before after events
+  pub counted : length events ≡ count
+
+-- Why a session ended. The journal is the one that it hands back, of which a full one is said to be full.
+abbrev pub EndsBy : Outcome → Option (List Happening) → ℕ → ℕ → ℕ → ℕ → Cored → Type 0
+EndsBy Outcome.Finished left reads reads' writes writes' v = IsOver left
+EndsBy Outcome.ReadFault left reads reads' writes writes' v = Rose reads reads'
+EndsBy Outcome.WriteFault left reads reads' writes writes' v = Rose writes writes'
+EndsBy (Outcome.JournalFull full) left reads reads' writes writes' v = IsFullLine v full
+EndsBy _ left reads reads' writes writes' v = ⊥
+
+-- a journal that is handed back
+pub record IsServed (h : History) : Type 0 where
+  pub lawful : Lawful h
+  pub calm : Calm h
+  pub settled_then : settled h (last_moment h) ≡ true
+  pub driven : Driven h
+
+-- what ends a session that reads no more, or a write that fails
+abbrev pub EndsWriting : Outcome → ℕ → ℕ → Type 0
+EndsWriting Outcome.Finished writes writes' = Unit {0}
+EndsWriting Outcome.WriteFault writes writes' = Rose writes writes'
+EndsWriting _ writes writes' = ⊥
+
+-- what the sink gained so far, or at the end
+abbrev pub Puts : Option Outcome → Option (List ℕ) → Option (List ℕ) → ℕ → ℕ → History → Type 0
+Puts None before after writes writes' h = Gains before after (answers_text h)
+Puts (Some outcome) before after writes writes' h = Wrote outcome before after writes writes' h
+
+-- a write that fails
+abbrev pub IsWriteFault : Outcome → ℕ → ℕ → Type 0
+IsWriteFault Outcome.WriteFault writes writes' = Rose writes writes'
+IsWriteFault _ writes writes' = ⊥
+
+-- a session that rests goes on resting, and one that ends has a Driven journal
+abbrev pub Turns : Option Outcome → Cored → Cored → Type 0
+Turns None old new = Rests old → Rests new
+Turns (Some outcome) old new = Rests old → Driven new.history
+
+-- a journal as the core keeps it
+abbrev pub cored : Journaled → Cored
+cored j = record { history = j.history; last = last_moment j.history; limit = j.limit }
+
+-- Why a session ended, with the polls that were made and those that were allowed.
+abbrev pub HasCause : Outcome → Option (List Happening) → Option (List Happening) → Option (List Happening) → ℕ → ℕ → ℕ → ℕ → Journaled → ℕ → ℕ → Type 0
+HasCause Outcome.Budget given given' left reads reads' writes writes' j made allowed = (made ≡ allowed) × Gave given given' allowed
+HasCause outcome given given' left reads reads' writes writes' j made allowed = EndsBy outcome left reads reads' writes writes' (cored j)

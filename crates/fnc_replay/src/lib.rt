@@ -1,0 +1,10 @@
+// Sessions of lines: each line of a source is entered, all starts are made, and the new lines of the
+// journal go to a sink.
+#![tactic(auto)]
+
+mod session;
+mod starts;
+mod taken;
+mod turn;
+
+pub use session::{Replayed, replay};

@@ -1,0 +1,12 @@
+// All starts that a line lets be made.
+
+ghost use Rattle.fnc_replay.specs.Rests.{StartsAll};
+
+use fnc_desk::Desk;
+
+/// Makes all starts that may be made at the last moment.
+pub(crate) fn start_all(desk: &mut Desk)
+    ensures { StartsAll desk.old desk.new }
+{
+    while let Some(_run) = desk.note_start() {}
+}

@@ -1,0 +1,89 @@
+// One turn of a session: a poll, and the lines of what it made.
+
+ghost use Rattle.std.specs.Prelude.{◌≡◌, ◌≤◌, [], ℕ, List, Option, length, IfSome, IfNone};
+ghost use Rattle.fnc_journal.specs.Lawful.{Lawful};
+ghost use Rattle.fnc_journal.specs.Line.{answers_text};
+ghost use Rattle.fnc_journal.specs.Prefix.{prefix};
+ghost use Rattle.fnc_outside.specs.Told.{Gains};
+ghost use Rattle.fnc_desk.specs.Printed.{Climbs};
+ghost use Rattle.fnc_replay.specs.Session.{Wrote, EndsBy, EndsWriting, IsWriteFault, Puts, Gave, Turns};
+
+
+use crate::taken::{Taken, take};
+use fnc_desk::{Desk, print_end, print_from};
+use fnc_journal::{Full, Journal, Outcome};
+use fnc_outside::{LineBuf, Sink, Source};
+
+/// Writes the end line.
+fn finish<K: Sink>(journal: &Journal, sink: &mut K) -> Outcome
+    requires { Lawful journal.now.history }
+    ensures text { (start : Option (List ℕ)) → Gains start (K.held sink.old) (answers_text journal.now.history)
+        → Wrote result start (K.held sink.new) (K.faults sink.old) (K.faults sink.new) journal.now.history }
+    ensures cause { EndsWriting result (K.faults sink.old) (K.faults sink.new) }
+    ensures writes { Climbs (K.faults sink.old) (K.faults sink.new) }
+{
+    match print_end(journal, sink) {
+        Ok(()) => Outcome::Finished,
+        Err(_) => Outcome::WriteFault,
+    }
+}
+
+/// Writes the lines of the entries from an index on. None where the session goes on.
+fn write_on<K: Sink>(journal: &Journal, from: u32, sink: &mut K) -> Option<Outcome>
+    requires lawful { Lawful journal.now.history }
+    requires within { from ≤ length journal.now.history }
+    ensures text { (start : Option (List ℕ)) → Gains start (K.held sink.old) (answers_text (prefix from journal.now.history))
+        → Puts result start (K.held sink.new) (K.faults sink.old) (K.faults sink.new) journal.now.history }
+    ensures cause { IfSome result (λ o. IsWriteFault o (K.faults sink.old) (K.faults sink.new)) }
+    ensures writes { Climbs (K.faults sink.old) (K.faults sink.new) }
+{
+    match print_from(journal, from, sink) {
+        Ok(()) => None,
+        Err(_) => Some(Outcome::WriteFault),
+    }
+}
+
+/// Writes the replies of the advance of a line that found no room.
+fn write_full<K: Sink>(journal: &Journal, from: u32, sink: &mut K, full: Full) -> Outcome
+    requires lawful { Lawful journal.now.history }
+    requires within { from ≤ length journal.now.history }
+    ensures text { (start : Option (List ℕ)) → Gains start (K.held sink.old) (answers_text (prefix from journal.now.history))
+        → Wrote result start (K.held sink.new) (K.faults sink.old) (K.faults sink.new) journal.now.history }
+    ensures outcome { result ≡ Outcome.JournalFull full }
+    ensures writes { Climbs (K.faults sink.old) (K.faults sink.new) }
+{
+    match print_from(journal, from, sink) {
+        Ok(()) => Outcome::JournalFull(full),
+        Err(_) => Outcome::JournalFull(full),
+    }
+}
+
+/// One turn: polls the source once, serves what it gave, and writes the lines of what that made. None
+/// where the session goes on.
+pub(crate) fn turn<S: Source, K: Sink>(
+    source: &mut S,
+    sink: &mut K,
+    desk: &mut Desk,
+    line: &mut LineBuf,
+) -> Option<Outcome>
+    requires { line.old.bytes ≡ [] }
+    ensures text { (start : Option (List ℕ)) → Gains start (K.held sink.old) (answers_text desk.old.history)
+        → Puts result start (K.held sink.new) (K.faults sink.old) (K.faults sink.new) desk.new.history }
+    ensures turns { Turns result desk.old desk.new }
+    ensures cause { IfSome result (λ o.
+        EndsBy o (S.left source.new) (S.faults source.old) (S.faults source.new) (K.faults sink.old) (K.faults sink.new) desk.new) }
+    ensures gave { IfNone result (Gave (S.given source.old) (S.given source.new) 1) }
+    ensures limit { desk.new.limit ≡ desk.old.limit }
+    ensures reads { Climbs (S.faults source.old) (S.faults source.new) }
+    ensures writes { Climbs (K.faults sink.old) (K.faults sink.new) }
+    ensures empty { line.new.bytes ≡ [] }
+{
+    let written = desk.journal().len();
+    match take(source, desk, line) {
+        Taken::Nothing => None,
+        Taken::Served => write_on(desk.journal(), written, sink),
+        Taken::Full(full) => Some(write_full(desk.journal(), written, sink, full)),
+        Taken::Over => Some(finish(desk.journal(), sink)),
+        Taken::Failed => Some(Outcome::ReadFault),
+    }
+}
