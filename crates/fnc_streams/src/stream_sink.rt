@@ -1,6 +1,8 @@
 // Bytes to a writer.
 
 ghost use Rattle.std.specs.Prelude.{◌≡◌, None, OnOk, OnErr};
+ghost use Rattle.std.specs.Bool.{OnTrue};
+ghost use Rattle.std.specs.Io.KnownBytes.{Appends};
 ghost use Rattle.fnc_outside.specs.Faults.{NeverFalls, Rose};
 ghost use Rattle.fnc_outside.specs.Told.{Gains};
 ghost use Rattle.fnc_outside.specs.Writes.{AppendsPart};
@@ -28,7 +30,9 @@ impl<W> Model for StreamSink<W> {
 
 /// Writes the piece, in as many writes as the writer wants, and flushes it. False where a write or the
 /// flush fails, or a write takes no byte.
-fn write_whole<W: Write>(writer: &mut W, piece: &[u8]) -> bool {
+fn write_whole<W: Write>(writer: &mut W, piece: &[u8]) -> bool
+    ensures { OnTrue result (Appends (W.contents writer.old) (W.contents writer.new) piece.now) }
+{
     let mut rest = piece;
     for _ in 0..u64::MAX {
         if rest.is_empty() {

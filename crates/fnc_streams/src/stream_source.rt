@@ -1,6 +1,6 @@
 // Lines from a reader.
 
-ghost use Rattle.std.specs.Prelude.{◌≡◌, ◌<◌, ℕ, [], length, None, IfOk, IfSome};
+ghost use Rattle.std.specs.Prelude.{◌≡◌, ◌<◌, ◌==◌, ◌||◌, ℕ, [], length, position, nat_lt, if◌then◌else◌, None, IfOk, IfSome};
 ghost use Rattle.std.specs.Bool.{OnTrue, OnFalse};
 ghost use Rattle.fnc_outside.specs.Faults.{one_more};
 ghost use Rattle.fnc_outside.specs.Polls.{IsPolled, HasCause};
@@ -41,14 +41,17 @@ impl<R> Model for StreamSource<R> {
 
 /// The place of the first line feed.
 fn line_feed(bytes: &[u8]) -> Option<usize>
-    ensures { IfSome result (λ at. at < length bytes.now) }
+    ensures first { result ≡ position (λ byte. byte == 10) bytes.now }
+    ensures within { IfSome result (λ at. at < length bytes.now) }
 {
     bytes.iter().position(|byte| *byte == b'\n')
 }
 
-/// Puts a line into the buffer, unless it is too long.
+/// Puts a line into the buffer, unless it is too long. Its front was given up where it is cut.
 fn give(text: &[u8], is_cut: bool, line: &mut LineBuf) -> Polled
     requires empty { line.old.bytes ≡ [] }
+    ensures answer { result ≡ (if is_cut || nat_lt line.old.size (length text.now) then Polled.TooLong else Polled.Line) }
+    ensures line { result ≡ Polled.Line → line.new.bytes ≡ text.now }
     ensures size { line.new.size ≡ line.old.size }
     ensures buffer { IsPolled result line.new }
     // it never fails, so it needs no cause
