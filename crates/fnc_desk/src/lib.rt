@@ -4,5 +4,7 @@
 mod output;
 mod printing;
 mod tally;
+#[cfg(test)]
+mod tests;
 
 pub use output::{print_end, print_from, print_line};
