@@ -9,6 +9,8 @@ mod output;
 mod plain;
 mod printing;
 mod tally;
+#[cfg(test)]
+mod tests;
 
 pub use desk::Desk;
 pub use output::{print_end, print_from, print_line};
