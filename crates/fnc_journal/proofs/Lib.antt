@@ -12,3 +12,4 @@ pub mod Closing
 pub mod AliveRuns
 pub mod Prefixes
 pub mod LawfulSteps
+pub mod Faults
