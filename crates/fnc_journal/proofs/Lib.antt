@@ -17,3 +17,4 @@ pub mod RunsOfOne
 pub mod Prefixes
 pub mod LawfulSteps
 pub mod DrivenSteps
+pub mod Faults

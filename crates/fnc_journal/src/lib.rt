@@ -10,6 +10,8 @@ mod names;
 mod outcome;
 mod plan;
 mod sequence;
+#[cfg(test)]
+mod tests;
 mod text;
 
 pub use cause::Cause;

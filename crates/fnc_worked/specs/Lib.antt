@@ -1,0 +1,17 @@
+pub mod Entries
+pub mod Devices
+pub mod Sessions
+pub mod OneDevice
+pub mod Topology
+pub mod Deadlines
+pub mod SplitReboots
+pub mod Limits
+pub mod Delays
+pub mod Queries
+pub mod Confirmed
+pub mod Refusals
+pub mod FaultyReplies
+pub mod FaultyStarts
+pub mod FaultyInputs
+pub mod Unserved
+pub mod OwedAlong
