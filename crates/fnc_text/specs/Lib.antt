@@ -1,0 +1,5 @@
+pub mod Digits
+pub mod Durations
+pub mod Words
+pub mod Escapes
+pub mod Names
