@@ -1,0 +1,38 @@
+-- What a sink in memory is seen as.
+use Rattle.std.specs.Prelude.{ℕ, ◌+◌, ◌==◌, List, [], ◌∷◌, ◌++◌, length, take, Bool, Option, Some, None, nat_le, nat_lt, is_some, ◌||◌, if◌then◌else◌}
+use Rattle.fnc_outside.specs.Faults.{one_more}
+use Rattle.fnc_outside.specs.declared.memory_sink.Torn.{Torn}
+
+-- the bytes held, and the most that it can hold; the number of the next write, and the writes that tear; the count of faults
+pub record Stored : Type 0 where
+  pub held : List ℕ
+  pub size : ℕ
+  pub writes : ℕ
+  pub torn : List Torn
+  pub faults : ℕ
+
+-- how many bytes of its piece a write keeps, where it is one that tears; the first item of its number counts
+abbrev pub kept_of : List Torn → ℕ → Option ℕ
+kept_of [] write = None
+kept_of (item ∷ items) write = if item.write == write then Some item.kept else kept_of items write
+
+-- what is to be appended by a write of this piece
+abbrev pub part_of : Option ℕ → List ℕ → List ℕ
+part_of None piece = piece
+part_of (Some kept) piece = take kept piece
+
+-- there is room for these bytes
+abbrev pub has_room : Stored → List ℕ → Bool
+has_room sink bytes = nat_le (length sink.held + length bytes) sink.size
+
+-- a write of the piece fails: it tears, or its bytes have no room
+abbrev pub write_fails : Stored → List ℕ → Bool
+write_fails sink piece = is_some (kept_of sink.torn sink.writes) || nat_lt sink.size (length sink.held + length piece)
+
+-- the sink after a write of the piece, which leaves nothing where its bytes have no room
+abbrev pub after_write : Stored → List ℕ → Stored
+after_write sink piece = record sink {
+  held = (let part = part_of (kept_of sink.torn sink.writes) piece in if has_room sink part then sink.held ++ part else sink.held);
+  writes = one_more sink.writes;
+  faults = if write_fails sink piece then one_more sink.faults else sink.faults;
+}
