@@ -1,6 +1,6 @@
 // Durations, as operators write the times of a device.
 
-ghost use Rattle.std.specs.Prelude.{◌≡◌, ◌≤◌, IsTrue, length, take_while};
+ghost use Rattle.std.specs.Prelude.{◌≡◌, ◌≤◌, IsTrue, IfOk, length, take_while};
 ghost use Rattle.std.specs.Char.{is_ascii_digit};
 ghost use Rattle.std.specs.List.{list_all, prefix_len};
 ghost use Rattle.fnc_text.specs.Durations.{after_digits, unit, duration};
@@ -30,7 +30,8 @@ const DAY: u64 = 86_400_000;
 /// A duration in milliseconds: decimal digits and a unit. No unit, `s` and `sec` are seconds, `ms`
 /// and `msec` milliseconds, `m` and `min` minutes, `h` and `hr` hours. It ends at 24 hours.
 pub fn read_duration(text: &[u8]) -> Result<u64, DurationFault>
-    ensures { result ≡ duration text.now }
+    ensures value { result ≡ duration text.now }
+    ensures within { IfOk result (λ ms. ms ≤ 86400000) }
 {
     let Some(first) = text.first() else {
         return Err(DurationFault::Empty);

@@ -1,6 +1,6 @@
 // Numbers written in decimal digits.
 
-ghost use Rattle.std.specs.Prelude.{◌≡◌, IsTrue};
+ghost use Rattle.std.specs.Prelude.{◌≡◌, ◌≤◌, IsTrue, IfSome};
 ghost use Rattle.std.specs.Char.{is_ascii_digit};
 ghost use Rattle.std.specs.List.{list_all};
 ghost use Rattle.fnc_text.specs.Digits.{digits_value, at_most, is_number, number};
@@ -8,7 +8,8 @@ ghost use Rattle.fnc_text.specs.Digits.{digits_value, at_most, is_number, number
 /// The number that 1 to 20 decimal digits spell. None where the text is anything else, or the
 /// number is above `most`. Leading zeros are read.
 pub fn read_number(text: &[u8], most: u64) -> Option<u64>
-    ensures { result ≡ number most text.now }
+    ensures value { result ≡ number most text.now }
+    ensures within { IfSome result (λ n. n ≤ most) }
 {
     if is_number(text) {
         value_up_to(text, most)
@@ -32,7 +33,8 @@ fn are_digits(text: &[u8]) -> bool
 /// The number that digits spell, where it is at most `most`.
 pub(crate) fn value_up_to(digits: &[u8], most: u64) -> Option<u64>
     requires { IsTrue (list_all is_ascii_digit digits.now) }
-    ensures { result ≡ at_most most (digits_value digits.now) }
+    ensures value { result ≡ at_most most (digits_value digits.now) }
+    ensures within { IfSome result (λ n. n ≤ most) }
 {
     let mut value = 0u64;
     for digit in digits {
