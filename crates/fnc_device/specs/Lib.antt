@@ -1,0 +1,7 @@
+pub mod Steps
+pub mod Options
+pub mod Nodes
+pub mod Times
+pub mod Schedules
+pub mod Allowances
+pub mod Definitions
