@@ -1,6 +1,6 @@
 -- The records after the exit of the run that is alive: of a first try that failed, or of one that is answered.
-use Rattle.std.proofs.Common.{ℕ, List, [], ◌∷◌, ◌++◌, Bool, true, false, ◌≡◌, ◌≤◌, ◌<◌, ◌+◌, refl, ap, ap₂, sym, ◌∙◌, subst, Option, Some, None, arith, length, map, not, ◌||◌, ◌&&◌, ◌==◌, cond, eqb-true, eq-eqb, false-eqb, is_some}
-use Rattle.std.specs.Prelude.{option_and_then, filter, find}
+use Rattle.std.proofs.Common.{ℕ, List, [], ◌∷◌, Bool, true, false, ◌≡◌, ◌≤◌, ◌<◌, ◌+◌, refl, ap, ap₂, sym, ◌∙◌, subst, Option, Some, None, arith, length, map, not, ◌||◌, ◌&&◌, ◌==◌, cond, eqb-true, eq-eqb, false-eqb}
+use Rattle.std.specs.Prelude.{filter, find}
 use Rattle.std.specs.List.{list_any, AllByRecursion}
 use Rattle.fnc_journal.specs.declared.entry.Answer.{Answer}
 use Rattle.fnc_journal.specs.declared.entry.Entry.{Entry}
@@ -9,19 +9,18 @@ use Rattle.fnc_journal.specs.declared.entry.Exit.{Exit}
 use Rattle.fnc_journal.specs.declared.entry.Kind.{Kind}
 use Rattle.fnc_journal.specs.History.{History}
 use Rattle.fnc_journal.specs.Missing.{first_of, has_any}
-use Rattle.fnc_journal.specs.Found.{started, has_exit}
 use Rattle.fnc_journal.specs.Exits.{is_success}
 use Rattle.fnc_journal.specs.Slots.{Operation}
 use Rattle.fnc_journal.specs.Acts.{Act, acts, slot_of_run, last_run}
 use Rattle.fnc_journal.specs.Due.{due}
 use Rattle.fnc_journal.specs.Operations.{operation, open_operations, unanswered, is_open, is_due, due_to, first_due, lead_of}
 use Rattle.fnc_journal.specs.Startable.{Begun, alive_runs}
-use Rattle.fnc_journal.specs.Lawful.{Lawful, LawfulEntry, last_moment, pending, Pending}
+use Rattle.fnc_journal.specs.Lawful.{Lawful, LawfulEntry, pending}
 use Rattle.fnc_journal.proofs.ActsLemmas.{acts-exit, acts-other_exit}
 use Rattle.fnc_journal.proofs.AliveRuns.{alive_is_last}
 use Rattle.fnc_journal.proofs.Closing.{reply, open-reply_last, open-found}
 use Rattle.fnc_journal.proofs.Each.{found-each}
-use Rattle.fnc_journal.proofs.LawfulSteps.{MayCome, lawful-input, lawful-reply}
+use Rattle.fnc_journal.proofs.LawfulSteps.{lawful-input, lawful-reply}
 use Rattle.fnc_journal.proofs.Members.{unanswered-reply}
 use Rattle.fnc_journal.proofs.Requests.{IsLed, lead_of-push, operation-led, operation-asked, waiting-unanswered, unanswered-other_reply}
 use Rattle.fnc_journal.proofs.Running.{alive_runs-exit}
@@ -31,13 +30,12 @@ use Rattle.fnc_core.specs.declared.open.Open.{Open}
 use Rattle.fnc_core.specs.declared.open.Stage.{Stage}
 use Rattle.fnc_core.specs.Stages as Stages
 use Rattle.fnc_core.specs.Stages.{only, is_running, is_second, is_second_of, owed_of, owed_for}
-use Rattle.fnc_core.specs.Opens.{operation_for, operation_with, only_slot, HasActs, HasBegun, HasFailed, HasBegunAgain, Stands}
-use Rattle.fnc_core.specs.Holds.{Holds, IsPlain, IsRegistered, HasRun}
+use Rattle.fnc_core.specs.Opens.{operation_for, only_slot, HasActs, Stands}
+use Rattle.fnc_core.specs.Holds.{Holds, IsRegistered}
 use Rattle.fnc_core.proofs.Shapes.{due-kept, due-passed, due-passed_again, due-lost}
-use Rattle.fnc_core.proofs.KeptLemmas.{kept-later, HasActs-later, settled-holds, settled_then-holds}
+use Rattle.fnc_core.proofs.KeptLemmas.{HasActs-later, settled-holds, settled_then-holds}
 use Rattle.fnc_core.proofs.InputSteps.{may_come}
 use Rattle.fnc_core.proofs.StageLemmas.{is_alive_last, running-stage, map-only, map-rest, owed_of-only, owed_of-answered, tries_left-failed}
-use Rattle.fnc_core.proofs.RunSteps.{founds}
 
 -- the entry of an exit
 abbrev pub exit_entry : ℕ → Running → Exit → Bool → Entry

@@ -1,19 +1,18 @@
 -- The records after an entry that ends nothing: a refusal, a registration, a request.
-use Rattle.std.proofs.Common.{ℕ, List, [], ◌∷◌, ◌++◌, Bool, true, false, ◌≡◌, ◌≤◌, ◌<◌, ◌+◌, refl, ap, ap₂, sym, ◌∙◌, subst, Option, Some, None, arith, length, map, not, ◌||◌, ◌==◌, ◌&&◌, eq-eqb, ne_eqb, IsTrue, cond, rules}
-use Rattle.std.specs.Prelude.{bytes_eq, find, filter}
+use Rattle.std.proofs.Common.{ℕ, List, [], ◌∷◌, ◌++◌, Bool, true, false, ◌≡◌, ◌≤◌, ◌<◌, ◌+◌, refl, ap, ap₂, sym, ◌∙◌, subst, Option, Some, None, arith, length, map, ◌||◌, ◌==◌, ◌&&◌, eq-eqb, ne_eqb, rules}
+use Rattle.std.specs.Prelude.{bytes_eq, find}
 use Rattle.std.specs.List.{list_any, AllByRecursion}
 use Rattle.fnc_journal.specs.declared.cause.Cause.{Cause}
 use Rattle.fnc_journal.specs.declared.entry.Entry.{Entry}
 use Rattle.fnc_journal.specs.declared.entry.Event.{Event}
 use Rattle.fnc_journal.specs.declared.entry.Kind.{Kind}
 use Rattle.fnc_journal.specs.declared.entry.Scope.{Scope}
-use Rattle.fnc_journal.specs.declared.definition.Registration.{Registration}
 use Rattle.fnc_journal.specs.History.{History}
-use Rattle.fnc_journal.specs.Found.{asks, devices}
+use Rattle.fnc_journal.specs.Found.{asks}
 use Rattle.fnc_journal.specs.Slots.{Operation, operation_of}
 use Rattle.fnc_journal.specs.Acts.{acts}
-use Rattle.fnc_journal.specs.Operations.{open_operations, unanswered, joined, is_joinable}
-use Rattle.fnc_journal.specs.Lawful.{Lawful, LawfulEntry, last_moment}
+use Rattle.fnc_journal.specs.Operations.{unanswered, is_joinable}
+use Rattle.fnc_journal.specs.Lawful.{LawfulEntry}
 use Rattle.fnc_journal.proofs.LawfulSteps.{MayCome, lawful-input}
 use Rattle.fnc_journal.proofs.Asking.{ask_entry, asked_as, open-asked, unanswered-new, unanswered-other}
 use Rattle.fnc_journal.proofs.Each.{each-map, each-append}
@@ -21,10 +20,10 @@ use Rattle.fnc_journal.proofs.Fresh.{open-small, unasked_idle}
 use Rattle.fnc_core.specs.declared.running.Running.{Running}
 use Rattle.fnc_core.specs.declared.open.Open.{Open}
 use Rattle.fnc_core.specs.declared.open.Stage.{Stage}
-use Rattle.fnc_core.specs.Plain.{plain, only_device}
+use Rattle.fnc_core.specs.Plain.{plain}
 use Rattle.fnc_core.specs.Stages.{owed_of, owed_for}
 use Rattle.fnc_core.specs.Opens.{operation_for, default_total, IsKept, Stands}
-use Rattle.fnc_core.specs.Holds.{Holds, IsPlain, HasNoDevice, HasOneDevice, IsRegistered, HasRun, IsRunning}
+use Rattle.fnc_core.specs.Holds.{Holds, HasNoDevice, HasOneDevice, IsRegistered, IsRunning}
 use Rattle.fnc_core.proofs.KeptLemmas.{kept-later, settled-holds, settled_then-holds}
 
 module _ (h : History) (limit last : ℕ) (device : Bool) (opens : List Open) (running : Option Running) (next_req next_run : ℕ) (i : Holds h limit last device opens running next_req next_run)

@@ -1,13 +1,12 @@
 -- What the records say of the journal: nothing is due, and how much is owed.
-use Rattle.std.proofs.Common.{ℕ, List, [], ◌∷◌, Bool, true, false, ◌≡◌, ◌≤◌, ◌<◌, ◌+◌, ◌*◌, refl, ap, ap₂, sym, ◌∙◌, subst, Option, Some, None, arith, length, map, not, ◌||◌, is_some}
+use Rattle.std.proofs.Common.{ℕ, List, [], ◌∷◌, Bool, true, false, ◌≡◌, ◌≤◌, ◌<◌, ◌+◌, ◌*◌, refl, ap, ap₂, ◌∙◌, subst, Option, Some, None, arith, length, map, not, ◌||◌, is_some}
 use Rattle.std.specs.List.{list_any, AllByRecursion}
 use Rattle.fnc_journal.specs.History.{History}
 use Rattle.fnc_journal.specs.Found.{devices}
-use Rattle.fnc_journal.specs.Slots.{Operation}
 use Rattle.fnc_journal.specs.Acts.{Act, acts}
 use Rattle.fnc_journal.specs.Due.{due}
-use Rattle.fnc_journal.specs.Operations.{open_operations, unanswered, settled, is_due, due_to}
-use Rattle.fnc_journal.specs.Owed.{owed, owed_by, owed_by_all, untried}
+use Rattle.fnc_journal.specs.Operations.{open_operations, settled, is_due, due_to}
+use Rattle.fnc_journal.specs.Owed.{owed, owed_by, owed_by_all}
 use Rattle.fnc_journal.specs.Startable.{alive_runs}
 use Rattle.fnc_journal.specs.Lawful.{last_moment}
 use Rattle.fnc_journal.proofs.Each.{each-map}
@@ -16,9 +15,9 @@ use Rattle.fnc_core.specs.declared.open.Open.{Open}
 use Rattle.fnc_core.specs.declared.open.Stage.{Stage}
 use Rattle.fnc_core.specs.Stages as Stages
 use Rattle.fnc_core.specs.Stages.{owed_of, owed_for, tries_left}
-use Rattle.fnc_core.specs.Opens.{operation_with, operation_for, HasActs, HasBegun, HasFailed, HasBegunAgain, IsKept, Stands}
+use Rattle.fnc_core.specs.Opens.{operation_for, HasActs, HasBegun, HasFailed, IsKept, Stands}
 use Rattle.fnc_core.specs.Holds.{Holds, IsPlain, IsRunning, IsRegistered}
-use Rattle.fnc_core.specs.Cored.{Cored, Sound, HasRoom}
+use Rattle.fnc_core.specs.Cored.{Sound, HasRoom}
 use Rattle.fnc_core.proofs.Shapes.{due-kept, untried-kept}
 
 begun-later : (last m : ℕ) (xs : List Act) → last ≤ m → HasBegun last xs → HasBegun m xs

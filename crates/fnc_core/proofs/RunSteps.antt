@@ -1,45 +1,33 @@
 -- The records after a start, after the exit of a try that failed, and after an answer.
-use Rattle.std.proofs.Common.{ℕ, List, [], ◌∷◌, ◌++◌, Bool, true, false, ◌≡◌, ◌≤◌, ◌<◌, ◌+◌, refl, ap, ap₂, sym, ◌∙◌, subst, Option, Some, None, arith, length, map, not, ◌||◌, ◌&&◌, ◌==◌, cond, eqb-true, eq-eqb, is_some}
-use Rattle.std.specs.Prelude.{option_and_then, option_map, filter, find}
+use Rattle.std.proofs.Common.{ℕ, List, [], ◌∷◌, ◌++◌, Bool, true, false, ◌≡◌, ◌<◌, ◌+◌, refl, ap, sym, ◌∙◌, subst, Option, Some, None, arith, length, map, ◌||◌, ◌==◌, cond, eqb-true, eq-eqb, is_some}
 use Rattle.std.specs.List.{list_any, AllByRecursion}
-use Rattle.fnc_journal.specs.declared.entry.Answer.{Answer}
 use Rattle.fnc_journal.specs.declared.entry.Entry.{Entry}
 use Rattle.fnc_journal.specs.declared.entry.Event.{Event}
-use Rattle.fnc_journal.specs.declared.entry.Exit.{Exit}
 use Rattle.fnc_journal.specs.declared.entry.Kind.{Kind}
-use Rattle.fnc_journal.specs.declared.entry.Req.{Req}
-use Rattle.fnc_journal.specs.declared.entry.Run.{Run}
-use Rattle.fnc_journal.specs.declared.entry.Slot.{Slot}
 use Rattle.fnc_journal.specs.History.{History}
-use Rattle.fnc_journal.specs.Found.{Started, starts, started, has_exit, registration}
+use Rattle.fnc_journal.specs.Found.{Started, started, registration}
 use Rattle.fnc_journal.specs.Missing.{or_here}
-use Rattle.fnc_journal.specs.Exits.{is_success}
 use Rattle.fnc_journal.specs.Slots.{Task, Operation}
-use Rattle.fnc_journal.specs.Acts.{Act, acts, slot_of_run, runs, last_run, Last}
-use Rattle.fnc_journal.specs.Operations.{operation, open_operations, unanswered, settled}
+use Rattle.fnc_journal.specs.Acts.{Act, acts, slot_of_run, runs, last_run}
+use Rattle.fnc_journal.specs.Operations.{operation, open_operations}
 use Rattle.fnc_journal.specs.Startable.{Startable, Begun, alive_runs, is_alive, first}
-use Rattle.fnc_journal.specs.Lawful.{Lawful, LawfulEntry, last_moment}
-use Rattle.fnc_journal.proofs.ActsLemmas.{acts-exit, acts-other_exit}
-use Rattle.fnc_journal.proofs.AliveRuns.{alive_is_last}
+use Rattle.fnc_journal.specs.Lawful.{LawfulEntry}
 use Rattle.fnc_journal.proofs.Closing.{open-found}
-use Rattle.fnc_journal.proofs.Each.{each-map}
 use Rattle.fnc_journal.proofs.Fresh.{fresh_start, unstarted_unended}
 use Rattle.fnc_journal.proofs.Lawfulness.{fresh_run}
-use Rattle.fnc_journal.proofs.LawfulSteps.{MayCome, lawful-start, lawful-input}
-use Rattle.fnc_journal.proofs.Running.{alive_runs-start, alive_runs-exit, alive-listed}
-use Rattle.fnc_journal.proofs.RunsOfOne.{run-of_other}
+use Rattle.fnc_journal.proofs.LawfulSteps.{lawful-start}
+use Rattle.fnc_journal.proofs.Running.{alive_runs-start, alive-listed}
 use Rattle.fnc_core.specs.declared.running.Running.{Running}
 use Rattle.fnc_core.specs.declared.open.Open.{Open}
 use Rattle.fnc_core.specs.declared.open.Ready.{Ready}
 use Rattle.fnc_core.specs.declared.open.Stage.{Stage}
-use Rattle.fnc_core.specs.Plain.{plain}
 use Rattle.fnc_core.specs.Stages as Stages
 use Rattle.fnc_core.specs.Stages.{only, is_running, is_second, is_second_of, first_ready, owed_of, owed_for}
-use Rattle.fnc_core.specs.Opens.{operation_for, only_slot, only_task, HasActs, HasBegun, HasFailed, HasBegunAgain, IsKept, Stands}
+use Rattle.fnc_core.specs.Opens.{operation_for, only_slot, only_task, HasActs, Stands}
 use Rattle.fnc_core.specs.Cored.{Cored, start_of}
-use Rattle.fnc_core.specs.Holds.{Holds, IsPlain, HasNoDevice, HasOneDevice, IsRegistered, HasRun, IsRunning}
-use Rattle.fnc_core.proofs.KeptLemmas.{kept-later, HasActs-later, settled-holds, settled_then-holds}
-use Rattle.fnc_core.proofs.InputSteps.{may_come, each-unmap}
+use Rattle.fnc_core.specs.Holds.{Holds, IsRegistered, HasRun}
+use Rattle.fnc_core.proofs.KeptLemmas.{settled-holds}
+use Rattle.fnc_core.proofs.InputSteps.{each-unmap}
 use Rattle.fnc_core.proofs.StageLemmas.{is_alive_last, running-stage, map-only, any-only, first_ready-among, idle-held, owed_of-started}
 use Rattle.fnc_core.proofs.Starting.{StartsAs, Matches, first-free, first-busy}
 

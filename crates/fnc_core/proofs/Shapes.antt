@@ -1,18 +1,17 @@
 -- What the stage of an operation says of it: where it stands, since when it is ready, what is due.
-use Rattle.std.proofs.Common.{ℕ, List, [], ◌∷◌, Bool, true, false, ◌≡◌, ◌≤◌, ◌<◌, ◌+◌, ◌*◌, refl, ap, sym, ◌∙◌, Option, Some, None, arith, nat_le, nat_lt, min, ltb-false, lt-ltb, le-ltb, subst}
+use Rattle.std.proofs.Common.{ℕ, List, [], ◌∷◌, Bool, true, false, ◌≡◌, ◌≤◌, ◌<◌, ◌+◌, refl, ap, ◌∙◌, Some, None, arith, nat_le, nat_lt, min}
 use Rattle.std.proofs.lemmas.Bool.Decides.{nat_tests}
 use Rattle.fnc_journal.specs.declared.entry.Kind.{Kind}
 use Rattle.fnc_journal.specs.declared.entry.Exit.{Exit}
 use Rattle.fnc_journal.specs.declared.entry.Answer.{Answer}
 use Rattle.fnc_journal.specs.Exits.{is_success}
-use Rattle.fnc_journal.specs.Slots.{Task, Operation}
 use Rattle.fnc_journal.specs.Acts.{Act}
 use Rattle.fnc_journal.specs.Standing.{standing, ready}
 use Rattle.fnc_journal.specs.Due.{due}
 use Rattle.fnc_journal.specs.Owed.{untried}
 use Rattle.fnc_core.specs.declared.open.Stage.{Stage}
 use Rattle.fnc_core.specs.Stages.{ready_at, tries_left}
-use Rattle.fnc_core.specs.Opens.{operation_with, only_task, only_slot, HasActs, HasBegun, HasFailed, HasBegunAgain}
+use Rattle.fnc_core.specs.Opens.{operation_with, only_task, only_slot, HasActs}
 
 -- a moment below a minute lies before the end of what began at any moment
 not_over : (at m n : ℕ) → m < 60_000 → 60_000 ≤ n → nat_le (at + n) m ≡ false

@@ -1,7 +1,7 @@
 -- What lists of records say after a start, a failure and a reply.
-use Rattle.std.proofs.Common.{ℕ, List, [], ◌∷◌, ◌++◌, Bool, true, false, ◌≡◌, ◌≤◌, ◌<◌, ◌+◌, ◌*◌, refl, ap, ap₂, sym, ◌∙◌, subst, Option, Some, None, arith, length, map, not, ◌||◌, ◌&&◌, ◌==◌, cond, nat_lt, eqb-true, eq-eqb}
+use Rattle.std.proofs.Common.{ℕ, List, [], ◌∷◌, Bool, true, false, ◌≡◌, ◌≤◌, ◌+◌, refl, ap, ap₂, ◌∙◌, subst, Option, Some, None, arith, map, not, ◌||◌, ◌&&◌, ◌==◌, cond, nat_lt, eq-eqb}
 use Rattle.std.specs.Prelude.{filter, bytes_eq}
-use Rattle.std.specs.List.{list_any, AllByRecursion}
+use Rattle.std.specs.List.{list_any}
 use Rattle.fnc_journal.specs.Slots.{Operation}
 use Rattle.fnc_journal.specs.Acts.{Act, last_run, runs, Last}
 use Rattle.fnc_core.specs.declared.open.Open.{Open}

@@ -1,18 +1,15 @@
 -- Which try starts first, by the records and by the journal.
-use Rattle.std.proofs.Common.{ℕ, List, [], ◌∷◌, ◌++◌, Bool, true, false, ◌≡◌, ◌≤◌, ◌<◌, ◌+◌, refl, ap, ap₂, sym, ◌∙◌, subst, Option, Some, None, arith, length, map, not, ◌||◌, ◌&&◌, ◌==◌, cond, nat_lt, nat_le, le-leb, eqb-true, eq-eqb, is_some}
-use Rattle.std.specs.Prelude.{option_and_then}
-use Rattle.std.specs.List.{list_any, AllByRecursion}
+use Rattle.std.proofs.Common.{ℕ, List, [], ◌∷◌, Bool, true, false, ◌≡◌, ◌≤◌, ◌<◌, ◌+◌, refl, ap, ap₂, ◌∙◌, subst, Option, Some, None, arith, map, ◌&&◌, cond, nat_lt, nat_le, le-leb, eq-eqb}
+use Rattle.std.specs.List.{AllByRecursion}
 use Rattle.fnc_journal.specs.History.{History}
-use Rattle.fnc_journal.specs.Slots.{Task, Operation}
-use Rattle.fnc_journal.specs.Acts.{Act, acts, last_run, runs}
-use Rattle.fnc_journal.specs.Standing.{ready}
+use Rattle.fnc_journal.specs.Slots.{Operation}
+use Rattle.fnc_journal.specs.Acts.{acts, last_run, runs}
 use Rattle.fnc_journal.specs.Operations.{operation, open_operations, stands_at}
 use Rattle.fnc_journal.specs.Registered.{lane}
-use Rattle.fnc_journal.specs.Startable.{Begun, Startable, alive, alive_runs, has_room, startable, startable_at, startable_ready, soonest, first_among, first}
+use Rattle.fnc_journal.specs.Startable.{Startable, alive_runs, startable, startable_at, startable_ready, soonest, first_among, first}
 use Rattle.fnc_core.specs.declared.open.Open.{Open}
 use Rattle.fnc_core.specs.declared.open.Ready.{Ready}
 use Rattle.fnc_core.specs.declared.open.Stage.{Stage}
-use Rattle.fnc_core.specs.Plain.{only_device}
 use Rattle.fnc_core.specs.Stages.{is_running, ready_at, ready_with, ready_of, sooner, first_ready}
 use Rattle.fnc_core.specs.Opens.{operation_for, only_slot, only_task, HasActs, Stands}
 use Rattle.fnc_core.proofs.Shapes.{standing-kept, ready-kept}

@@ -11,7 +11,7 @@ use Rattle.fnc_journal.specs.Plan.{Wanted, candidates_among}
 use Rattle.fnc_journal.specs.Slots.{Operation}
 use Rattle.fnc_journal.specs.Acts.{acts, slot_of_run}
 use Rattle.fnc_journal.specs.Due.{is_confirmed}
-use Rattle.fnc_journal.specs.Operations.{open_operations, settled}
+use Rattle.fnc_journal.specs.Operations.{open_operations}
 use Rattle.fnc_journal.specs.Startable.{alive_runs}
 use Rattle.fnc_journal.specs.Lawful.{Lawful, Calm, last_moment, pending}
 use Rattle.fnc_core.specs.declared.running.Running.{Running}

@@ -1,6 +1,5 @@
 -- When the records of the open operations stand for a journal.
-use Rattle.std.specs.Prelude.{ℕ, List, [], ◌∷◌, Bool, true, false, ◌≡◌, ◌+◌, ◌≤◌, None}
-use Rattle.std.specs.List.{AllByRecursion}
+use Rattle.std.specs.Prelude.{ℕ, List, [], ◌∷◌, Bool, false, ◌≡◌, ◌+◌, ◌≤◌, None}
 use Rattle.fnc_journal.specs.declared.entry.Kind.{Kind}
 use Rattle.fnc_journal.specs.declared.entry.Phase.{Phase}
 use Rattle.fnc_journal.specs.declared.entry.Slot.{Slot}

@@ -1,14 +1,10 @@
 -- How what two calls of the core do adds up.
-use Rattle.std.proofs.Common.{ℕ, List, [], ◌∷◌, ◌++◌, ◌≡◌, ◌≤◌, refl, ap, ap₂, sym, ◌∙◌, subst, append_assoc, Ok, Err}
+use Rattle.std.proofs.Common.{ℕ, [], ◌∷◌, ◌++◌, ◌≡◌, ap, ap₂, sym, ◌∙◌, subst, append_assoc, Ok, Err}
 use Rattle.std.specs.Prelude.{Result, IfErr}
-use Rattle.std.specs.List.{AllByRecursion}
-use Rattle.fnc_journal.specs.declared.entry.Entry.{Entry}
-use Rattle.fnc_journal.specs.declared.entry.Event.{Event}
 use Rattle.fnc_journal.specs.declared.outcome.Full.{Full}
 use Rattle.fnc_journal.specs.History.{History}
-use Rattle.fnc_journal.specs.Found.{is_reply}
 use Rattle.fnc_journal.specs.Served.{AreReplies}
-use Rattle.fnc_core.specs.Cored.{Cored, Advances, Enters, IsFull}
+use Rattle.fnc_core.specs.Cored.{Cored, Advances, IsFull}
 use Rattle.fnc_desk.specs.Entered.{TakesAt, NeedOfLine, IsFullLine}
 
 pub replies-append : (m : ℕ) (xs ys : History) → AreReplies m xs → AreReplies m ys → AreReplies m (xs ++ ys)

@@ -1,10 +1,8 @@
 -- In a lawful journal each run is of one operation.
-use Rattle.std.proofs.Common.{ℕ, List, [], ◌∷◌, Bool, true, false, ◌≡◌, ◌≤◌, ◌+◌, refl, ap, sym, ◌∙◌, Option, Some, None, IsTrue, arith, ◌==◌, cond, eqb-true, false-eqb, subst}
+use Rattle.std.proofs.Common.{ℕ, [], ◌∷◌, Bool, true, false, ◌≡◌, refl, ap, sym, ◌∙◌, Option, Some, None, IsTrue, arith, ◌==◌, cond, eqb-true, false-eqb}
 use Rattle.std.specs.Prelude.{option_map}
 use Rattle.fnc_journal.specs.declared.entry.Event.{Event}
 use Rattle.fnc_journal.specs.declared.entry.Slot.{Slot}
-use Rattle.fnc_journal.specs.declared.entry.Exit.{Exit}
-use Rattle.fnc_journal.specs.declared.entry.Kind.{Kind}
 use Rattle.fnc_journal.specs.History.{History}
 use Rattle.fnc_journal.specs.Missing.{or_here}
 use Rattle.fnc_journal.specs.Found.{starts, Started, started, started_here}

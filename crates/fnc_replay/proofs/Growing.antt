@@ -21,8 +21,8 @@ grows-served old new s =
     record {
       more = s.starts.some.starts ++ (e.replies ++ (input ∷ e.advance));
       history =
-        s.starts.some.history ∙ ap (λ (h : History). s.starts.some.starts ++ h) (e.history ∙ sym (append_assoc e.replies (input ∷ e.advance) old.history))
-        ∙ sym (append_assoc s.starts.some.starts (e.replies ++ (input ∷ e.advance)) old.history);
+          s.starts.some.history ∙ ap (λ (h : History). s.starts.some.starts ++ h) (e.history ∙ sym (append_assoc e.replies (input ∷ e.advance) old.history))
+          ∙ sym (append_assoc s.starts.some.starts (e.replies ++ (input ∷ e.advance)) old.history);
       limit = s.starts.some.limit ∙ e.limit;
     }
 

@@ -166,7 +166,7 @@ rests-served old mid new r t s k = record { inputs = subst DrivenInputs (sym who
         ap (λ n. is_at_once n new.history) now
         ∙ ap (is_at_once t.moment) whole
         ∙ at_once-outputs t.moment s.some.starts (t.takes.enters.replies ++ input ∷ lead) starts
-          (at_once-outputs t.moment t.takes.enters.replies (input ∷ lead) outputs once_here)
+        (at_once-outputs t.moment t.takes.enters.replies (input ∷ lead) outputs once_here)
 
 -- at rest the journal is Driven
 pub driven-rests : (v : Cored) → Rests v → Driven v.history
@@ -192,7 +192,7 @@ driven-passed old new r p k = (subst (λ h. rests None h ≡ true) (sym p.advanc
     go : (old.history ≡ []) ⊎ AtRest old.last old.history → rests None (p.advances.advance ++ old.history) ≡ true
     go (inl e) =
         let none : p.advances.advance ≡ [] =
-              replies-none p.moment p.advances.advance (subst Lawful (empty-append p.advances.advance old.history e) (subst Lawful p.advances.history k.lawful)) p.advances.at_once in
+        replies-none p.moment p.advances.advance (subst Lawful (empty-append p.advances.advance old.history e) (subst Lawful p.advances.history k.lawful)) p.advances.at_once in
         ap (rests None) (empty-append p.advances.advance old.history e ∙ none)
     go (inr t) = rest t (old.last == p.moment) refl
 
@@ -233,13 +233,13 @@ wrote-later (Outcome.BadEntry line) before after f g k h l w = w
 full-cored : (v : Cored) (j : Journaled) (full : Full) → j.history ≡ v.history → j.limit ≡ v.limit → IsFullLine v full → IsFullLine (cored j) full
 full-cored v j full e l f =
     let moved : (h : History) (limit : ℕ) → h ≡ v.history → limit ≡ v.limit → IsFullLine v full → IsFullLine (record { history = h; last = last_moment h; limit = limit }) full =
-          λ h limit e l f. record {
-            need_of = f.need_of;
-            is_full = record {
-              says = f.is_full.says ∙ ap₂ (λ (x : History) (n : ℕ). record { entries = length x; owed = owed x; need = full.need; limit = n }) (sym e) (sym l);
-              above = subst (λ (x : History). limit < length x + owed x + full.need) (sym e) (subst (λ n. n < length v.history + owed v.history + full.need) (sym l) f.is_full.above)
-            }
-          } in
+    λ h limit e l f. record {
+      need_of = f.need_of;
+      is_full = record {
+        says = f.is_full.says ∙ ap₂ (λ (x : History) (n : ℕ). record { entries = length x; owed = owed x; need = full.need; limit = n }) (sym e) (sym l);
+        above = subst (λ (x : History). limit < length x + owed x + full.need) (sym e) (subst (λ n. n < length v.history + owed v.history + full.need) (sym l) f.is_full.above);
+      };
+    } in
     moved j.history j.limit e l f
 
 -- what ended a turn ended the session
@@ -266,6 +266,7 @@ gave-none told = record { events = []; gained = gains-none told; counted = refl 
 
 pub gave-more : (before between after : Option (List Happening)) (n : ℕ) → Gave before between n → Gave between after 1 → Gave before after (n + 1)
 gave-more before between after n a b = record {
-  events = a.events ++ b.events; gained = gains-gains before between after a.events b.events a.gained b.gained;
-  counted = let l = length-append a.events b.events in omega (arith, l, a.counted, b.counted)
+  events = a.events ++ b.events;
+  gained = gains-gains before between after a.events b.events a.gained b.gained;
+  counted = let l = length-append a.events b.events in omega (arith, l, a.counted, b.counted);
 }

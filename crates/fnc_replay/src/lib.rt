@@ -5,6 +5,8 @@
 mod session;
 mod starts;
 mod taken;
+#[cfg(test)]
+mod tests;
 mod turn;
 
 pub use session::{Replayed, replay};

@@ -46,7 +46,7 @@ pub fn replay<S: Source + Drop, K: Sink + Drop>(
         Wrote result.outcome (K.held sink) (K.held result.sink) (K.faults sink) (K.faults result.sink) j.history) }
     ensures cause { IfSome result.journal (λ j.
         HasCause result.outcome (S.given source) (S.given result.source) (S.left result.source) (S.faults source) (S.faults result.source)
-            (K.faults sink) (K.faults result.sink) j result.polls polls) }
+        (K.faults sink) (K.faults result.sink) j result.polls polls) }
     ensures polls { result.polls ≤ polls }
 {
     let (Ok(mut desk), Ok(mut line)) = (

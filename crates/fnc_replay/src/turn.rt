@@ -8,7 +8,6 @@ ghost use Rattle.fnc_outside.specs.Told.{Gains};
 ghost use Rattle.fnc_desk.specs.Printed.{Climbs};
 ghost use Rattle.fnc_replay.specs.Session.{Wrote, EndsBy, EndsWriting, IsWriteFault, Puts, Gave, Turns};
 
-
 use crate::taken::{Taken, take};
 use fnc_desk::{Desk, print_end, print_from};
 use fnc_journal::{Full, Journal, Outcome};

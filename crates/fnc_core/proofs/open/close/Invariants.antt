@@ -1,4 +1,4 @@
-use Rattle.std.proofs.Common.{◌≡◌, ◌++◌, ◌==◌, ◌-◌, ◌≤◌, not, take, drop, vec_len, length}
+use Rattle.std.proofs.Common.{◌≡◌, ◌++◌, ◌==◌, ◌-◌, ◌≤◌, not, take, drop, vec_len}
 use Rattle.std.specs.Prelude.{filter}
 use Rattle.fnc_core.proofs.open.close.Given as goal
 

@@ -1,5 +1,5 @@
 -- The step of the loop.
-use Rattle.std.proofs.Common.{◌≡◌, ◌<◌, ◌++◌, ap, ◌∙◌, map, take, drop, set, length, arith}
+use Rattle.std.proofs.Common.{◌<◌, ap, ◌∙◌, set, length, arith}
 use Rattle.std.proofs.lemmas.List.Edits.{map_over_more}
 use Rattle.std.proofs.lemmas.List.{get_or_default}
 use Rattle.fnc_core.specs.Stages.{only, failed}

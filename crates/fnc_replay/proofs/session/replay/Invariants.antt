@@ -15,5 +15,5 @@ invariant-loop-made g l = record {
   text : Gains (g.K.Sink.held l.initial.sink) (g.K.Sink.held l.sink) (answers_text l.desk.history);
   gave : Gave (g.S.Source.given l.initial.source) (g.S.Source.given l.source) l.made;
   reads : Climbs (g.S.Source.faults l.initial.source) (g.S.Source.faults l.source);
-  writes : Climbs (g.K.Sink.faults l.initial.sink) (g.K.Sink.faults l.sink)
+  writes : Climbs (g.K.Sink.faults l.initial.sink) (g.K.Sink.faults l.sink);
 }

@@ -16,7 +16,7 @@ returns-in-Served-clause-text g c = λ start gained.
     let from : c.len-written.result ≡ length c.args.desk.now.history = c.len-written.ensures ∙ ap length c.journal.ensures.history in
     let before : prefix c.len-written.result c.journal-in-Served.result.now.history ≡ c.args.desk.now.history = ap₂ prefix from same ∙ prefix-grown _ _ grown in
     subst (λ (h : History). Puts c.write_on.result start (g.K.Sink.held c.write_on.new.sink) (g.K.Sink.faults c.args.sink.now) (g.K.Sink.faults c.write_on.new.sink) h) same
-      (c.write_on.ensures.text start (subst (λ (h : History). Gains start (g.K.Sink.held c.args.sink.now) (answers_text h)) (sym before) gained))
+    (c.write_on.ensures.text start (subst (λ (h : History). Gains start (g.K.Sink.held c.args.sink.now) (answers_text h)) (sym before) gained))
 
 pub returns-in-Served-clause-turns : goal.returns-in-Served-clause-turns
 returns-in-Served-clause-turns g c = turns-served c.write_on.result _ _ c.in-Served.ensures.takes c.journal-in-Served.ensures.sound
@@ -28,7 +28,7 @@ returns-in-Full-clause-text g c = λ start gained.
     let from : c.len-written.result ≡ length c.args.desk.now.history = c.len-written.ensures ∙ ap length c.journal.ensures.history in
     let before : prefix c.len-written.result c.journal-in-Full.result.now.history ≡ c.args.desk.now.history = ap₂ prefix from same ∙ prefix-grown _ _ grown in
     subst (λ (h : History). Wrote c.write_full.result start (g.K.Sink.held c.write_full.new.sink) (g.K.Sink.faults c.args.sink.now) (g.K.Sink.faults c.write_full.new.sink) h) same
-      (c.write_full.ensures.text start (subst (λ (h : History). Gains start (g.K.Sink.held c.args.sink.now) (answers_text h)) (sym before) gained))
+    (c.write_full.ensures.text start (subst (λ (h : History). Gains start (g.K.Sink.held c.args.sink.now) (answers_text h)) (sym before) gained))
 
 pub returns-in-Full-clause-turns : goal.returns-in-Full-clause-turns
 returns-in-Full-clause-turns g c = λ rests. driven-passed _ _ rests c.in-Full.ensures.takes.0 c.journal-in-Full.ensures.sound

@@ -1,5 +1,5 @@
 -- The exit stands in the journal, and what it makes due is answered.
-use Rattle.std.proofs.Common.{◌≡◌, ◌≤◌, ◌<◌, ◌+◌, ◌∷◌, ◌++◌, ◌==◌, [], List, ℕ, Bool, true, false, ap, ap₂, sym, ◌∙◌, subst, refl, arith, length, Fits, w32, eq-eqb, eqb-true, false-eqb, ne_eqb, Option, Some, None, map, take, drop, not, is_some, rules}
+use Rattle.std.proofs.Common.{◌≡◌, ◌∷◌, ◌==◌, [], List, ℕ, false, ap, sym, ◌∙◌, subst, refl, arith, length, ne_eqb, Option, Some, None, map, rules}
 use Rattle.fnc_journal.specs.declared.entry.Event.{Event}
 use Rattle.fnc_journal.specs.Startable.{is_alive}
 use Rattle.fnc_core.specs.declared.open.Open.{Open}

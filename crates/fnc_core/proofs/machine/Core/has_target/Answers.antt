@@ -1,5 +1,5 @@
 -- The records' targets are those of the open operations.
-use Rattle.std.proofs.Common.{◌≡◌, ap, sym, ◌∙◌, List}
+use Rattle.std.proofs.Common.{ap, sym, ◌∙◌, List}
 use Rattle.std.specs.Prelude.{bytes_eq}
 use Rattle.std.specs.List.{list_any}
 use Rattle.fnc_journal.specs.Slots.{Operation}

@@ -1,6 +1,6 @@
 -- What the core keeps is what contracts say of it.
 use Rattle.std.proofs.Common.{subst}
-use Rattle.fnc_core.specs.Cored.{Cored, Sound}
+use Rattle.fnc_core.specs.Cored.{Sound}
 use Rattle.fnc_core.proofs.KeptLemmas.{sound-holds}
 use Rattle.fnc_core.proofs.machine.Core.into_journal.Goals as goal
 

@@ -1,17 +1,13 @@
 -- The first try of the records is the first start of the journal.
-use Rattle.std.proofs.Common.{◌≡◌, ◌≤◌, ◌<◌, ◌+◌, ◌∷◌, ◌++◌, ◌==◌, [], List, ℕ, Bool, true, false, ap, ap₂, sym, ◌∙◌, subst, refl, arith, length, Fits, w32, eq-eqb, eqb-true, false-eqb, ne_eqb, Option, Some, None, map, take, drop, not, is_some, rules}
-use Rattle.fnc_journal.specs.History.{History}
-use Rattle.fnc_journal.specs.Startable.{Startable, first}
+use Rattle.std.proofs.Common.{◌≡◌, ◌≤◌, ◌∷◌, false, ap, sym, ◌∙◌, subst, refl, arith, length, Option, Some, None, map, is_some, rules}
+use Rattle.fnc_journal.specs.Startable.{first}
 use Rattle.fnc_journal.proofs.Fresh.{starts-most}
-use Rattle.fnc_core.specs.declared.open.Open.{Open}
-use Rattle.fnc_core.specs.declared.open.Ready.{Ready}
 use Rattle.fnc_core.specs.declared.running.Running.{Running}
-use Rattle.fnc_core.specs.Cored.{Cored, Starts, start_of}
+use Rattle.fnc_core.specs.Cored.{Cored, Starts}
 use Rattle.fnc_core.specs.Holds.{Holds}
 use Rattle.fnc_core.specs.Stages.{first_ready, only, started}
 use Rattle.fnc_core.proofs.Entering.{written-back}
 use Rattle.fnc_core.proofs.RunSteps.{busy-none, free-none, none-of, start-fits, start-is_first, start_of-as, holds-started}
-use Rattle.fnc_core.proofs.Starting.{StartsAs}
 use Rattle.std.proofs.lemmas.List.{length-map}
 use Rattle.fnc_core.proofs.machine.Core.next_start.Goals as goal
 

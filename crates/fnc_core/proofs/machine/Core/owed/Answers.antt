@@ -1,9 +1,8 @@
 -- What the records owe is what the journal owes.
-use Rattle.std.proofs.Common.{◌≡◌, ◌+◌, ◌<◌, ◌^◌, ap, ap₂, sym, ◌∙◌, arith, length, List}
+use Rattle.std.proofs.Common.{◌≡◌, ◌+◌, ap, ap₂, sym, ◌∙◌, arith}
 use Rattle.fnc_journal.specs.Owed.{owed}
 use Rattle.fnc_core.specs.Cored.{Cored}
-use Rattle.fnc_core.specs.Stages.{owed_of, owed_for}
-use Rattle.fnc_core.specs.declared.open.Open.{Open}
+use Rattle.fnc_core.specs.Stages.{owed_of}
 use Rattle.fnc_core.proofs.KeptLemmas.{owed-holds}
 use Rattle.fnc_core.proofs.machine.Core.owed.Goals as goal
 

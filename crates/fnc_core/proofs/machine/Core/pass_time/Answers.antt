@@ -1,5 +1,5 @@
 -- The records stand at the later moment too.
-use Rattle.std.proofs.Common.{◌≤◌, ◌≡◌, ap, arith}
+use Rattle.std.proofs.Common.{◌≡◌, ap, arith}
 use Rattle.fnc_core.specs.Cored.{Cored}
 use Rattle.fnc_core.proofs.KeptLemmas.{holds-later}
 use Rattle.fnc_core.proofs.machine.Core.pass_time.Goals as goal

@@ -1,5 +1,5 @@
 -- The records stand for the journal with the request.
-use Rattle.std.proofs.Common.{◌≡◌, ◌≤◌, ◌<◌, ◌+◌, ◌∷◌, ◌++◌, [], List, ℕ, Bool, true, false, ap, ap₂, sym, ◌∙◌, subst, refl, arith, length, Fits, w32, eq-eqb, Option, Some, None}
+use Rattle.std.proofs.Common.{◌≡◌, ◌∷◌, ◌++◌, [], List, ℕ, false, ap, sym, ◌∙◌, subst, arith}
 use Rattle.std.specs.Prelude.{bytes_eq}
 use Rattle.std.specs.List.{list_any}
 use Rattle.fnc_journal.specs.Found.{devices}
@@ -8,9 +8,8 @@ use Rattle.fnc_journal.specs.Slots.{Operation}
 use Rattle.fnc_core.specs.declared.open.Open.{Open}
 use Rattle.fnc_core.specs.declared.open.Stage.{Stage}
 use Rattle.fnc_core.specs.Cored.{Cored, HasRoom}
-use Rattle.fnc_core.specs.Holds.{Holds}
 use Rattle.fnc_core.proofs.KeptLemmas.{room-holds, one-registered}
-use Rattle.fnc_core.proofs.InputSteps.{holds-asked, asked_entry}
+use Rattle.fnc_core.proofs.InputSteps.{holds-asked}
 use Rattle.fnc_core.proofs.StageLemmas.{any-targets}
 use Rattle.fnc_journal.proofs.Fresh.{asks-most}
 use Rattle.fnc_core.proofs.machine.Core.push_ask.Goals as goal

@@ -1,5 +1,5 @@
 -- The records stand for the journal with the registration.
-use Rattle.std.proofs.Common.{◌≡◌, ◌≤◌, ◌<◌, ◌+◌, ◌∷◌, ◌++◌, List, ℕ, Bool, true, false, ap, ap₂, sym, ◌∙◌, subst, refl, arith, length, Fits, w32, eq-eqb, Option, Some, None}
+use Rattle.std.proofs.Common.{◌≡◌, ◌∷◌, true, sym, subst, arith}
 use Rattle.fnc_journal.specs.declared.definition.Definition.{Definition}
 use Rattle.fnc_journal.specs.declared.entry.Event.{Event}
 use Rattle.fnc_journal.specs.Found.{devices}

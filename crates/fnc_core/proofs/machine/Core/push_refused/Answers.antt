@@ -1,5 +1,5 @@
 -- The records stand for the journal with the refusal.
-use Rattle.std.proofs.Common.{◌≡◌, ◌≤◌, ◌<◌, ◌+◌, ◌∷◌, ◌++◌, List, ℕ, Bool, true, false, ap, ap₂, sym, ◌∙◌, subst, refl, arith, length, Fits, w32, eq-eqb, Option, Some, None}
+use Rattle.std.proofs.Common.{sym, subst, arith}
 use Rattle.fnc_core.specs.Cored.{Cored, HasRoom}
 use Rattle.fnc_core.proofs.KeptLemmas.{room-holds}
 use Rattle.fnc_core.proofs.InputSteps.{holds-refused}

@@ -1,5 +1,4 @@
 -- The entry stands in the journal, and nothing else was added.
-use Rattle.std.proofs.Common.{◌≡◌, ◌≤◌, ◌<◌, ◌+◌, ◌∷◌, ◌++◌, List, ℕ, Bool, true, false, ap, ap₂, sym, ◌∙◌, subst, refl, arith, length, Fits, w32, eq-eqb, Option, Some, None}
 use Rattle.fnc_core.proofs.Entering.{entered}
 use Rattle.fnc_core.proofs.machine.Core.register.Goals as goal
 

@@ -1,0 +1,79 @@
+// A command: its words, what it reads and what it writes.
+
+ghost use Rattle.std.specs.Prelude.{◌≡◌, ◌≤◌, ◌↔◌, ◌⊎◌, ◌∷◌, [], IfSome, IfNone, IsTrue, map, codes, string_bytes};
+ghost use Rattle.fnc_outside.specs.Told.{Gains};
+ghost use Rattle.fnc_replay.specs.Session.{Wrote, HasCause, IsServed};
+
+use fnc_journal::{Journal, Outcome};
+use fnc_outside::{Sink, Source};
+use fnc_replay::replay;
+use std::alloc::Global;
+
+/// The most entries that the journal of a session holds.
+const LIMIT: u32 = 65_536;
+
+/// The most polls that a command makes.
+const POLLS: u64 = 4_294_967_295;
+
+/// What a command came to: its outcome, the journal of its session, the polls that it made, and the source
+/// and the sink. There is no journal exactly where the words are no command, or memory was refused at the
+/// opening.
+#[derive(Drop)]
+pub struct Tooled<S: Drop, K: Drop> {
+    pub outcome: Outcome,
+    pub journal: Option<Journal>,
+    pub polls: u64,
+    pub source: S,
+    pub sink: K,
+}
+
+/// True for the one word `replay`.
+fn is_replay(words: &[String]) -> bool
+    ensures { IsTrue result ↔ (map string_bytes words.now ≡ codes "replay" ∷ []) }
+{
+    match words {
+        [word] => word.as_str() == "replay",
+        _ => false,
+    }
+}
+
+/// Runs the command that the words name. The one word `replay` replays the lines of the source, with a
+/// journal of at most 65,536 entries, and writes the answers to the sink; any other words are no command,
+/// which is `Usage`. The journal handed back is lawful, calm and driven, and all that it owes at its last
+/// moment is answered; `HasCause` says why the session ended, and `Wrote` what was written.
+pub fn run_tool<S: Source + Drop, K: Sink + Drop>(
+    alloc: Global,
+    words: &[String],
+    source: S,
+    sink: K,
+) -> Tooled<S, K>
+    ensures usage { (result.outcome ≡ Outcome.Usage) ↔ (map string_bytes words.now ≡ codes "replay" ∷ [] → ⊥) }
+    ensures none { IfNone result.journal ((result.outcome ≡ Outcome.Usage) ⊎ (result.outcome ≡ Outcome.NoMemory)) }
+    ensures nothing { IfNone result.journal (Gains (K.held sink) (K.held result.sink) []) }
+    ensures served { IfSome result.journal (λ j. IsServed j.history) }
+    ensures limit { IfSome result.journal (λ j. j.limit ≡ 65_536) }
+    ensures text { IfSome result.journal (λ j.
+        Wrote result.outcome (K.held sink) (K.held result.sink) (K.faults sink) (K.faults result.sink) j.history) }
+    ensures cause { IfSome result.journal (λ j.
+        HasCause result.outcome (S.given source) (S.given result.source) (S.left result.source) (S.faults source) (S.faults result.source)
+            (K.faults sink) (K.faults result.sink) j result.polls 4_294_967_295) }
+    ensures polls { result.polls ≤ 4_294_967_295 }
+{
+    if !is_replay(words) {
+        return Tooled {
+            outcome: Outcome::Usage,
+            journal: None,
+            polls: 0,
+            source,
+            sink,
+        };
+    }
+    let replayed = replay(alloc, source, sink, LIMIT, POLLS);
+    Tooled {
+        outcome: replayed.outcome,
+        journal: replayed.journal,
+        polls: replayed.polls,
+        source: replayed.source,
+        sink: replayed.sink,
+    }
+}
