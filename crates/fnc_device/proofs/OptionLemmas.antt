@@ -1,5 +1,5 @@
 -- Options looked over one after another.
-use Rattle.std.proofs.Common.{◌≡◌, ℕ, ◌+◌, ◌<◌, cond, List, [], ◌∷◌, ◌++◌, length, get_or, take, drop, Err, refl, sym, ap, ◌∙◌}
+use Rattle.std.proofs.Common.{◌≡◌, ℕ, ◌+◌, ◌<◌, cond, List, length, get_or, take, drop, Err, refl, sym}
 use Rattle.std.proofs.lemmas.List.{drop_more, take_more}
 use Rattle.fnc_journal.specs.declared.names.Pair.{Pair}
 use Rattle.fnc_device.specs.declared.fault.DefineFault.{DefineFault}

@@ -5,3 +5,4 @@ pub mod Times
 pub mod Schedules
 pub mod Allowances
 pub mod Definitions
+pub mod Bounds

@@ -1,13 +1,12 @@
 -- When and where a device's actions may start: the delay before them, how many may run at once, and
 -- the place of the device among others.
-use Rattle.std.specs.Prelude.{ℕ, List, [], ◌∷◌, Bool, ◌==◌, if◌then◌else◌, Option, Some, None, Result, Ok, Err, bytes_eq, codes, ℤ, pos, neg_ℤ}
+use Rattle.std.specs.Prelude.{ℕ, List, [], ◌∷◌, ◌==◌, if◌then◌else◌, Option, Some, None, Result, Ok, Err, bytes_eq, codes, ℤ, pos, neg_ℤ}
 use Rattle.std.specs.List.{list_any}
 use Rattle.fnc_journal.specs.declared.definition.Base.{Base}
 use Rattle.fnc_journal.specs.declared.definition.Delay.{Delay}
 use Rattle.fnc_journal.specs.declared.names.Pair.{Pair}
 use Rattle.fnc_text.specs.Digits.{number}
 use Rattle.fnc_text.specs.Durations.{duration}
-use Rattle.fnc_hosts.specs.declared.hosts.HostFault.{HostFault}
 use Rattle.fnc_hosts.specs.Hosts.{is_colon, host_map}
 use Rattle.fnc_device.specs.declared.fault.DefineFault.{DefineFault}
 use Rattle.fnc_device.specs.declared.schedule.Schedule.{Schedule}

@@ -1,5 +1,5 @@
 -- Options that are durations, in milliseconds.
-use Rattle.std.specs.Prelude.{ℕ, List, ◌==◌, if◌then◌else◌, Option, Some, None, Result, Ok, Err}
+use Rattle.std.specs.Prelude.{ℕ, List, Option, Some, None, Result, Ok, Err}
 use Rattle.fnc_journal.specs.declared.names.Pair.{Pair}
 use Rattle.fnc_text.specs.declared.duration.DurationFault.{DurationFault}
 use Rattle.fnc_text.specs.Durations.{duration}

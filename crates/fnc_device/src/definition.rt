@@ -1,7 +1,8 @@
 // What the options of a device define.
 
-ghost use Rattle.std.specs.Prelude.{◌≡◌};
+ghost use Rattle.std.specs.Prelude.{◌≡◌, IfOk};
 ghost use Rattle.fnc_device.specs.Definitions.{carries_port, is_missing, all_given, define};
+ghost use Rattle.fnc_device.specs.Bounds.{IsBounded, IsFitDescription};
 ghost use Rattle.fnc_device.specs.Steps.{Gives};
 
 use crate::allowance::read_allowances;
@@ -15,18 +16,28 @@ use std::alloc::Global;
 
 /// The definition of a device by its options, `name=value` pairs as an operator gives them, and by
 /// the description of its agent. The options whose names begin with `pcmk_`, and `priority`, are the
-/// fencer's, after the manual page pacemaker-fenced(7); all others are passed on to the agent. The
-/// faults come in the order of `DefineFault`, but that the durations, `pcmk_delay_base` and
-/// `pcmk_delay_max` first, stand at the places of their options: a timeout before the retries of its
-/// action, `pcmk_list_keep` after all of these.
+/// fencer's, after the manual page pacemaker-fenced(7); all others are passed on to the agent.
+/// Faults are looked for in this order: the options as such, the host list, the host map and the host
+/// check, the base and the max of the delay, the limit, the priority, the timeout and the retries of
+/// on, off, reboot, list and status in turn, `pcmk_list_keep`, and the parameters that are missing.
 pub fn define(
     alloc: Global,
     options: &Pairs,
     description: &Description,
 ) -> Result<Definition, DefineFault>
+    ensures value { Gives result (define options.now description.now) }
+    ensures bounded { IsFitDescription description.now → IfOk result IsBounded }
+{
+    read_definition(alloc, options.as_slice(), description)
+}
+
+fn read_definition(
+    alloc: Global,
+    options: &[Pair],
+    description: &Description,
+) -> Result<Definition, DefineFault>
     ensures { Gives result (define options.now description.now) }
 {
-    let options = options.as_slice();
     check_options(alloc, options)?;
     let nodes = read_nodes(alloc, options, &description.actions)?;
     let schedule = read_schedule(alloc, options)?;

@@ -5,7 +5,7 @@ ghost use Rattle.fnc_device.specs.declared.fault.DefineFault.TheVariants.{NoMemo
 
 use fnc_journal::Text;
 
-/// Why options define no device, in the order in which the faults are looked for.
+/// Why options define no device.
 #[derive(Debug, Drop)]
 pub enum DefineFault {
     /// There are more than 32 options.

@@ -12,3 +12,6 @@ mod time;
 
 pub use definition::define;
 pub use fault::DefineFault;
+
+#[cfg(test)]
+mod tests;
