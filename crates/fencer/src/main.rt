@@ -4,10 +4,9 @@
 use fnc_cli::run_tool;
 use fnc_journal::Outcome;
 use fnc_streams::{StreamSink, StreamSource};
-use std::env;
-use std::io;
 use std::io::ErrorKind;
 use std::process::ExitCode;
+use std::{env, io};
 
 /// The words of the command line, without the program's own name.
 fn words(rt: &HostRuntime) -> io::Result<Vec<String>> {

@@ -56,7 +56,7 @@ pub fn run_tool<S: Source + Drop, K: Sink + Drop>(
         Wrote result.outcome (K.held sink) (K.held result.sink) (K.faults sink) (K.faults result.sink) j.history) }
     ensures cause { IfSome result.journal (λ j.
         HasCause result.outcome (S.given source) (S.given result.source) (S.left result.source) (S.faults source) (S.faults result.source)
-            (K.faults sink) (K.faults result.sink) j result.polls 4_294_967_295) }
+        (K.faults sink) (K.faults result.sink) j result.polls 4_294_967_295) }
     ensures polls { result.polls ≤ 4_294_967_295 }
 {
     if !is_replay(words) {
