@@ -9,7 +9,7 @@ use std::test::Fail;
 
 const LIMIT: u32 = 65_536;
 
-const POLLS: u64 = 4_294_967_295;
+const POLLS: u32 = 4_294_967_295;
 
 // What a session reads, where its source and its sink fail, and how many polls it may make; then how it
 // ends, after how many polls, and what it wrote.
@@ -18,7 +18,7 @@ struct Session<'a> {
     input: &'a [u8],
     failing_polls: &'a [u32],
     failing_writes: &'a [u32],
-    allowed: u64,
+    allowed: u32,
     outcome: Outcome,
     made: u64,
     output: &'a [u8],
@@ -27,7 +27,7 @@ struct Session<'a> {
 fn check(rt: &impl Abort, alloc: Global, session: Session<'_>) -> Result<(), Fail> {
     let source = MemorySource::new(alloc, session.input, session.failing_polls)?;
     let sink = MemorySink::new(alloc, 1_024, session.failing_writes)?;
-    let replayed = replay(alloc, source, sink, LIMIT, session.allowed);
+    let replayed = replay(alloc, source, sink, LIMIT, u64::from(session.allowed));
     assert_eq!(rt; replayed.outcome, session.outcome);
     assert_eq!(rt; replayed.polls, session.made);
     assert_eq!(rt; replayed.sink.bytes(), session.output);
