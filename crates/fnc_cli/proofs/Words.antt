@@ -1,6 +1,5 @@
 -- What the words of a command line are, when there is one.
-use Rattle.std.proofs.Common.{ℕ, List, [], ◌∷◌, ◌≡◌, ◌≤◌, ◌<◌, length, get_or, map, Bool, true, false, IsTrue, String, string_bytes, bytes_eq, refl, ap, sym, ◌∙◌, subst, arith}
-use Rattle.std.proofs.lemmas.Slice.Eq.{bytes_eq-Decides}
+use Rattle.std.proofs.Common.{ℕ, List, [], ◌∷◌, ◌≡◌, ◌≤◌, ◌<◌, length, get_or, map, String, string_bytes, ap, sym, ◌∙◌, arith}
 
 -- the head of a list of one item, or of none
 head : {A : Type 0} (x y : A) (xs ys : List A) → x ∷ xs ≡ y ∷ ys → x ≡ y

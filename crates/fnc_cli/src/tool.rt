@@ -2,7 +2,8 @@
 
 ghost use Rattle.std.specs.Prelude.{◌≡◌, ◌≤◌, ◌↔◌, ◌⊎◌, ◌∷◌, [], IfSome, IfNone, IsTrue, map, codes, string_bytes};
 ghost use Rattle.fnc_outside.specs.Told.{Gains};
-ghost use Rattle.fnc_replay.specs.Session.{Wrote, HasCause, IsServed};
+ghost use Rattle.fnc_replay.specs.Session.{Wrote, HasCause, IsServed, cored};
+ghost use Rattle.fnc_replay.specs.Heard.{Heard};
 
 use fnc_journal::{Journal, Outcome};
 use fnc_outside::{Sink, Source};
@@ -40,7 +41,8 @@ fn is_replay(words: &[String]) -> bool
 /// Runs the command that the words name. The one word `replay` replays the lines of the source, with a
 /// journal of at most 65,536 entries, and writes the answers to the sink; any other words are no command,
 /// which is `Usage`. The journal handed back is lawful, calm and driven, and all that it owes at its last
-/// moment is answered; `HasCause` says why the session ended, and `Wrote` what was written.
+/// moment is answered; `Heard` says that its inputs are those of the lines that the source gave, `HasCause`
+/// why the session ended, and `Wrote` what was written.
 pub fn run_tool<S: Source + Drop, K: Sink + Drop>(
     alloc: Global,
     words: &[String],
@@ -55,8 +57,10 @@ pub fn run_tool<S: Source + Drop, K: Sink + Drop>(
     ensures text { IfSome result.journal (λ j.
         Wrote result.outcome (K.held sink) (K.held result.sink) (K.faults sink) (K.faults result.sink) j.history) }
     ensures cause { IfSome result.journal (λ j.
-        HasCause result.outcome (S.given source) (S.given result.source) (S.left result.source) (S.faults source) (S.faults result.source)
+        HasCause result.outcome (S.left result.source) (S.faults source) (S.faults result.source)
         (K.faults sink) (K.faults result.sink) j result.polls 4_294_967_295) }
+    ensures heard { IfSome result.journal (λ j.
+        Heard result.outcome (S.given source) (S.given result.source) result.polls (cored j)) }
     ensures polls { result.polls ≤ 4_294_967_295 }
 {
     if !is_replay(words) {

@@ -30,11 +30,13 @@ pub record Sound (v : Cored) : Type 0 where
   pub came : last_moment v.history ≤ v.last
   pub room : length v.history + owed v.history ≤ v.limit
 
--- the moment advances: the replies due at it are given, none where the moment is the last one
+-- The moment advances: the replies due at it are given, none where the moment is the last one. This edition lives
+-- within the first minute, in which nothing becomes due by time alone: so there are none.
 pub record Advances (old new : Cored) (m : ℕ) : Type 0 where
   pub advance : History
   pub at_once : AreReplies m advance
   pub still : old.last ≡ m → advance ≡ []
+  pub quiet : advance ≡ []
   pub history : new.history ≡ advance ++ old.history
   pub last : new.last ≡ m
   pub limit : new.limit ≡ old.limit
@@ -44,6 +46,7 @@ pub record Enters (old new : Cored) (m : ℕ) (event : Event) : Type 0 where
   pub advance : History
   pub at_once : AreReplies m advance
   pub still : old.last ≡ m → advance ≡ []
+  pub quiet : advance ≡ []
   pub replies : History
   pub answered : AreReplies m replies
   pub history : new.history ≡ replies ++ record { moment = m; event = event } ∷ (advance ++ old.history)

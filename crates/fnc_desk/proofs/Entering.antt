@@ -1,59 +1,34 @@
--- How what two calls of the core do adds up.
-use Rattle.std.proofs.Common.{ℕ, [], ◌∷◌, ◌++◌, ◌≡◌, ap, ap₂, sym, ◌∙◌, subst, append_assoc, Ok, Err}
-use Rattle.std.specs.Prelude.{Result, IfErr}
+-- An input that the core takes, or for which it has no room, is the one that the line calls for.
+use Rattle.std.proofs.Common.{ℕ, List, ◌≡◌, ◌≤◌, refl, ap, ap₂, ◌∙◌, subst, inl, Ok, Err}
+use Rattle.std.specs.Prelude.{Result, OnOk, OnErr, IfErr}
+use Rattle.fnc_journal.specs.declared.entry.Entry.{Entry}
+use Rattle.fnc_journal.specs.declared.entry.Event.{Event}
+use Rattle.fnc_journal.specs.declared.entry.Req.{Req}
+use Rattle.fnc_journal.specs.Found.{asks}
 use Rattle.fnc_journal.specs.declared.outcome.Full.{Full}
-use Rattle.fnc_journal.specs.History.{History}
-use Rattle.fnc_journal.specs.Served.{AreReplies}
-use Rattle.fnc_core.specs.Cored.{Cored, Advances, IsFull}
-use Rattle.fnc_desk.specs.Entered.{TakesAt, NeedOfLine, IsFullLine}
+use Rattle.fnc_core.specs.Cored.{Cored, Advances, Enters, IsFull, ask_of}
+use Rattle.fnc_desk.specs.Entered.{TakesInput, InputLacksRoom}
+use Rattle.fnc_desk.specs.Inputs.{need_of, request_input}
 
-pub replies-append : (m : ℕ) (xs ys : History) → AreReplies m xs → AreReplies m ys → AreReplies m (xs ++ ys)
-replies-append m [] ys a b = b
-replies-append m (x ∷ xs) ys a b = (a.0, replies-append m xs ys a.1 b)
+pub takes-known : (input : Entry) (old new : Cored) → old.last ≤ input.moment → Enters old new input.moment input.event → TakesInput input old new
+takes-known input old new l e = record { entry = input; is = inl refl; later = l; enters = e }
 
--- an advance, and then another at the same moment
-pub advance-twice : (old mid new : Cored) (m : ℕ) → Advances old mid m → Advances mid new m → Advances old new m
-advance-twice old mid new m a b = record {
-  advance = b.advance ++ a.advance;
-  at_once = replies-append m b.advance a.advance b.at_once a.at_once;
-  still = λ e. ap₂ ◌++◌ (b.still a.last) (a.still e);
-  history = b.history ∙ ap (λ (h : History). b.advance ++ h) a.history ∙ sym (append_assoc b.advance a.advance old.history);
-  last = b.last;
-  limit = b.limit ∙ a.limit;
-}
+pub lacks-known : (input : Entry) (old new : Cored) (full : Full) → old.last ≤ input.moment → Advances old new input.moment → IsFull new (need_of input.event) full → InputLacksRoom input old new full
+lacks-known input old new full l a f = record { entry = input; is = inl refl; later = l; advances = a; is_full = f }
 
--- an advance, and then an input at the same moment
-pub takes-after : (old mid new : Cored) (m : ℕ) → Advances old mid m → TakesAt mid new m → TakesAt old new m
-takes-after old mid new m a t = record {
-  event = t.event;
-  input = t.input;
-  enters = record {
-    advance = t.enters.advance ++ a.advance;
-    at_once = replies-append m t.enters.advance a.advance t.enters.at_once a.at_once;
-    still = λ e. ap₂ ◌++◌ (t.enters.still a.last) (a.still e);
-    replies = t.enters.replies;
-    answered = t.enters.answered;
-    history =
-        t.enters.history
-        ∙ ap (λ (h : History). t.enters.replies ++ record { moment = m; event = t.event } ∷ (t.enters.advance ++ h)) a.history
-        ∙ ap (λ (h : History). t.enters.replies ++ record { moment = m; event = t.event } ∷ h) (sym (append_assoc t.enters.advance a.advance old.history));
-    last = t.enters.last;
-    limit = t.enters.limit ∙ a.limit;
-  };
-}
+pub takes-result : (input : Entry) (old new : Cored) (r : Result (Unit {0}) Full) → old.last ≤ input.moment → OnOk r (Enters old new input.moment input.event) → OnOk r (TakesInput input old new)
+takes-result input old new (Ok u) l e = takes-known input old new l e
+takes-result input old new (Err full) l e = tt
 
--- what a line needs is known of what is said where there is no room
-full-with : (v : Cored) (full : Full) (need : ℕ) → NeedOfLine need → IsFull v need full → IsFullLine v full
-full-with v full need n f =
-    let same : full.need ≡ need = ap (λ (g : Full). g.need) f.says in
-    record { need_of = subst NeedOfLine (sym same) n; is_full = subst (λ k. IsFull v k full) (sym same) f }
+pub lacks-result : (input : Entry) (old new : Cored) (r : Result (Unit {0}) Full) → old.last ≤ input.moment → OnErr r (Advances old new input.moment) → IfErr r (IsFull new (need_of input.event)) →
+    IfErr r (InputLacksRoom input old new)
+lacks-result input old new (Ok u) l a f = tt
+lacks-result input old new (Err full) l a f = lacks-known input old new full l a f
 
-pub full-other : (v : Cored) (full : Full) → IsFull v 1 full → IsFullLine v full
-full-other v full f = full-with v full 1 NeedOfLine.other f
-
-pub full-request : (v : Cored) (full : Full) → IsFull v 6 full → IsFullLine v full
-full-request v full f = full-with v full 6 NeedOfLine.request f
-
-pub full-result : (v : Cored) (r : Result (Unit {0}) Full) → IfErr r (IsFull v 1) → IfErr r (IsFullLine v)
-full-result v (Ok u) e = tt
-full-result v (Err full) e = full-other v full e
+-- a request that was taken is the one that the line asks
+pub takes-request : (old new : Cored) (m : ℕ) (req : Req) (client target asking node : List ℕ) → old.last ≤ m → client ≡ asking → target ≡ node → req.0 ≡ asks old.history →
+    Enters old new m (ask_of req client target) → TakesInput (request_input m asking node old.history) old new
+takes-request old new m req client target asking node l c t n e =
+    let same : ask_of req client target ≡ ask_of (record { 0 = asks old.history }) asking node =
+    ap₂ (λ (k : ℕ) (x : List ℕ). ask_of (record { 0 = k }) x target) n c ∙ ap (ask_of (record { 0 = asks old.history }) asking) t in
+    takes-known (request_input m asking node old.history) old new l (subst (λ (event : Event). Enters old new m event) same e)

@@ -1,33 +1,41 @@
 -- What a line does to the core.
-use Rattle.std.specs.Prelude.{ℕ, ◌≡◌, ◌≤◌, true}
-use Rattle.fnc_journal.specs.declared.entry.Event.{Event}
+use Rattle.std.specs.Prelude.{ℕ, ◌≤◌}
+use Rattle.fnc_journal.specs.declared.entry.Entry.{Entry}
 use Rattle.fnc_journal.specs.declared.outcome.Full.{Full}
-use Rattle.fnc_journal.specs.Found.{is_input}
+use Rattle.fnc_outside.specs.Events.{Happening}
 use Rattle.fnc_core.specs.Cored.{Cored, Advances, Enters, IsFull}
+use Rattle.fnc_desk.specs.Inputs.{inputs, line_number, Gives, IsInput, need_of}
 
--- an input enters at a moment
-pub record TakesAt (old new : Cored) (moment : ℕ) : Type 0 where
-  pub event : Event
-  pub input : is_input event ≡ true
-  pub enters : Enters old new moment event
+-- one input entry, which is one of these, enters at its moment
+pub record Takes (IsEntry : Entry → Type 0) (old new : Cored) : Type 0 where
+  pub entry : Entry
+  pub is : IsEntry entry
+  pub later : old.last ≤ entry.moment
+  pub enters : Enters old new entry.moment entry.event
 
--- a line gives one input entry, at its moment or at the last one
-pub record TakesLine (old new : Cored) : Type 0 where
-  pub moment : ℕ
-  pub later : old.last ≤ moment
-  pub takes : TakesAt old new moment
+-- the input entry finds no room for what it needs: only the moment advances, and there is no entry
+pub record Lacks (IsEntry : Entry → Type 0) (old new : Cored) (full : Full) : Type 0 where
+  pub entry : Entry
+  pub is : IsEntry entry
+  pub later : old.last ≤ entry.moment
+  pub advances : Advances old new entry.moment
+  pub is_full : IsFull new (need_of entry.event) full
 
--- a line without room gives none: only the moment advances
-pub record PassesTime (old new : Cored) : Type 0 where
-  pub moment : ℕ
-  pub later : old.last ≤ moment
-  pub advances : Advances old new moment
+-- the number of the line that comes next
+abbrev pub next_line : Cored → ℕ
+next_line v = line_number (inputs v.history)
 
--- and there was no room for what it needed: six entries for a request, one for any other line
-pub data NeedOfLine : ℕ → Type 0 where
-  request : NeedOfLine 6
-  other : NeedOfLine 1
+-- a line gives one input entry
+abbrev pub TakesLine : Happening → Cored → Cored → Type 0
+TakesLine x old new = Takes (Gives x old.history old.last (next_line old)) old new
 
-pub record IsFullLine (v : Cored) (full : Full) : Type 0 where
-  pub need_of : NeedOfLine full.need
-  pub is_full : IsFull v full.need full
+-- a line without room gives none
+abbrev pub LacksRoom : Happening → Cored → Cored → Full → Type 0
+LacksRoom x old new full = Lacks (Gives x old.history old.last (next_line old)) old new full
+
+-- an input that is known enters, or in place of one that takes memory the refusal for want of it
+abbrev pub TakesInput : Entry → Cored → Cored → Type 0
+TakesInput input old new = Takes (IsInput input (next_line old)) old new
+
+abbrev pub InputLacksRoom : Entry → Cored → Cored → Full → Type 0
+InputLacksRoom input old new full = Lacks (IsInput input (next_line old)) old new full

@@ -1,20 +1,15 @@
 // The desk: one line in, one input entry of the journal.
 
-ghost use Rattle.std.specs.Prelude.{◌≡◌, ◌≤◌, ◌<◌, ◌+◌, [], length, false, IfOk, IfErr, OnOk, OnErr, IsNone, IfNone, IfSome, None, ◌↔◌, bytes_eq};
-ghost use Rattle.std.specs.List.{list_any};
-ghost use Rattle.fnc_journal.specs.Found.{devices};
-ghost use Rattle.fnc_journal.specs.Operations.{open_operations};
-ghost use Rattle.fnc_journal.specs.Slots.{Operation};
+ghost use Rattle.std.specs.Prelude.{◌≡◌, ◌≤◌, ◌↔◌, ℕ, [], IfOk, IfErr, OnOk, IsNone, IfNone, IfSome, None};
 ghost use Rattle.fnc_journal.specs.Startable.{first};
-ghost use Rattle.fnc_core.specs.Cored.{Sound, Advances, Starts};
-ghost use Rattle.fnc_core.specs.Plain.{plain};
-ghost use Rattle.fnc_desk.specs.Entered.{TakesAt, TakesLine, PassesTime, IsFullLine};
-ghost use Rattle.fnc_desk.specs.Lines.{IsEarly};
+ghost use Rattle.fnc_outside.specs.Events.{Happening};
+ghost use Rattle.fnc_core.specs.Cored.{Sound, Starts};
+ghost use Rattle.fnc_desk.specs.Entered.{TakesLine, LacksRoom};
 
-use crate::line::{Line, read_line};
-use crate::plain::registration;
-use fnc_core::{AskRefusal, Core, UnknownRun};
-use fnc_journal::{Cause, Exit, Full, Journal, NoMemory, Run, Text};
+use crate::input::{refuse, understand};
+use crate::line::read_line;
+use fnc_core::Core;
+use fnc_journal::{Cause, Full, Journal, NoMemory, Run};
 use std::alloc::Global;
 use std::marker::Model;
 
@@ -27,11 +22,15 @@ pub struct Desk {
 }
 
 impl Model for Desk {
+    ghost use Rattle.std.specs.Prelude.{◌≡◌, ◌-◌, ◌^◌, min};
     ghost use Rattle.fnc_core.specs.Cored.{Cored};
+    ghost use Rattle.fnc_desk.specs.Inputs.{inputs};
 
     ghost Value = { Cored };
 
     ghost view = { λ d. d.core };
+
+    ghost invariant = { λ d. d.lines ≡ min (inputs d.core.history) (2 ^ 32 - 1) };
 }
 
 impl Desk {
@@ -69,110 +68,27 @@ impl Desk {
         core.into_journal()
     }
 
-    fn refuse(&mut self, moment: u64, cause: Cause) -> Result<(), Full>
-        requires later { self.old.last ≤ moment }
-        requires early { moment < 60_000 }
-        ensures ok { OnOk result (TakesAt self.old self.new moment) }
-        ensures full { IfErr result (IsFullLine self.new) }
-        ensures err { OnErr result (Advances self.old self.new moment) }
-    {
-        let line = self.lines.saturating_add(1);
-        self.core.refuse(moment, line, cause)
-    }
-
-    fn register(&mut self, moment: u64, name: &str) -> Result<(), Full>
-        requires later { self.old.last ≤ moment }
-        requires early { moment < 60_000 }
-        requires first { devices self.old.history ≡ 0 }
-        ensures ok { OnOk result (TakesAt self.old self.new moment) }
-        ensures full { IfErr result (IsFullLine self.new) }
-        ensures err { OnErr result (Advances self.old self.new moment) }
-    {
-        match registration(self.alloc, name) {
-            Ok(registration) => self.core.register(moment, registration),
-            Err(NoMemory) => self.refuse(moment, Cause::NoMemory),
-        }
-    }
-
-    fn ask(&mut self, moment: u64, client: &str, target: &str) -> Result<(), Full>
-        requires later { self.old.last ≤ moment }
-        requires early { moment < 60_000 }
-        requires device { devices self.old.history ≡ 1 }
-        requires free { list_any (λ (o : Operation). bytes_eq target.now o.target) (open_operations self.old.history) ≡ false }
-        ensures ok { OnOk result (TakesAt self.old self.new moment) }
-        ensures full { IfErr result (IsFullLine self.new) }
-        ensures err { OnErr result (Advances self.old self.new moment) }
-    {
-        let (Ok(client), Ok(target)) = (
-            Text::new(self.alloc, client),
-            Text::new(self.alloc, target),
-        ) else {
-            return self.refuse(moment, Cause::NoMemory);
-        };
-        match self.core.ask(self.alloc, moment, client, target) {
-            Ok(_) => Ok(()),
-            Err(AskRefusal::Full(full)) => Err(full),
-            Err(AskRefusal::NoMemory) => self.refuse(moment, Cause::NoMemory),
-        }
-    }
-
-    fn exit(&mut self, moment: u64, run: Run, code: u8) -> Result<(), Full>
-        requires later { self.old.last ≤ moment }
-        requires early { moment < 60_000 }
-        ensures ok { OnOk result (TakesAt self.old self.new moment) }
-        ensures full { IfErr result (IsFullLine self.new) }
-        ensures err { OnErr result (Advances self.old self.new moment) }
-    {
-        match self.core.exit(moment, run, Exit::Code(code), false) {
-            Ok(()) => Ok(()),
-            Err(UnknownRun) => self.refuse(moment, Cause::UnknownRun),
-        }
-    }
-
-    fn understand(&mut self, said: Line<'_>) -> Result<(), Full>
-        requires { IsEarly said }
-        ensures ok { OnOk result (TakesLine self.old self.new) }
-        ensures full { IfErr result (IsFullLine self.new) }
-        ensures err { OnErr result (PassesTime self.old self.new) }
-    {
-        let last = self.core.last();
-        match said {
-            Line::Device { moment, name } if last <= moment && !self.core.has_device() => {
-                self.register(moment, name)
-            }
-            Line::Ask {
-                moment,
-                client,
-                target,
-            } if last <= moment && self.core.has_device() && !self.core.has_target(target) => {
-                self.ask(moment, client, target)
-            }
-            Line::Exit { moment, run, code } if last <= moment => self.exit(moment, run, code),
-            _ => self.refuse(last, Cause::UnknownVerb),
-        }
-    }
-
     /// Enters a line: it gives one input entry, and the replies that this makes due. Where there is no
     /// room for what the line needs, only the moment advances, and the line is not counted.
     pub fn enter(&mut self, line: &[u8]) -> Result<(), Full>
-        ensures ok { OnOk result (TakesLine self.old self.new) }
-        ensures full { IfErr result (IsFullLine self.new) }
-        ensures err { OnErr result (PassesTime self.old self.new) }
+        ensures ok { OnOk result (TakesLine (Happening.Line line.now) self.old self.new) }
+        ensures full { IfErr result (LacksRoom (Happening.Line line.now) self.old self.new) }
     {
-        self.understand(read_line(line))?;
-        self.lines = self.lines.saturating_add(1);
+        let number = self.lines.saturating_add(1);
+        understand(&mut self.core, self.alloc, number, read_line(line))?;
+        self.lines = number;
         Ok(())
     }
 
     /// Enters a line that was too long to be read.
     pub fn enter_long(&mut self) -> Result<(), Full>
-        ensures ok { OnOk result (TakesLine self.old self.new) }
-        ensures full { IfErr result (IsFullLine self.new) }
-        ensures err { OnErr result (PassesTime self.old self.new) }
+        ensures ok { (size : ℕ) → OnOk result (TakesLine (Happening.TooLong size) self.old self.new) }
+        ensures full { (size : ℕ) → IfErr result (LacksRoom (Happening.TooLong size) self.old self.new) }
     {
+        let number = self.lines.saturating_add(1);
         let last = self.core.last();
-        self.refuse(last, Cause::TooLong)?;
-        self.lines = self.lines.saturating_add(1);
+        refuse(&mut self.core, number, last, Cause::TooLong)?;
+        self.lines = number;
         Ok(())
     }
 

@@ -4,6 +4,7 @@
 #![tactic(auto)]
 
 mod desk;
+mod input;
 mod line;
 mod output;
 mod plain;

@@ -8,7 +8,7 @@ ghost use Rattle.fnc_outside.specs.Writes.{AppendsPart};
 ghost use Rattle.fnc_journal.specs.Lawful.{Lawful};
 ghost use Rattle.fnc_journal.specs.Line as Line;
 ghost use Rattle.fnc_journal.specs.Prefix.{prefix};
-ghost use Rattle.fnc_desk.specs.Printed.{Climbs, piece_text};
+ghost use Rattle.fnc_desk.specs.Printed.{piece_text};
 ghost use Rattle.fnc_desk.specs.Searched as Searched;
 
 use crate::printing::{Piece, print_pieces};
@@ -76,7 +76,7 @@ fn print_event<K: Sink>(journal: &Journal, event: &Event, sink: &mut K) -> Resul
     requires { Lawful journal.now.history }
     ensures ok { OnOk result (Gains (K.held sink.old) (K.held sink.new) (Line.line_of event.now journal.now.history)) }
     ensures err { OnErr result (AppendsPart (K.held sink.old) (K.held sink.new) (Line.line_of event.now journal.now.history)) }
-    ensures count { Climbs (K.faults sink.old) (K.faults sink.new) }
+    ensures count { K.faults sink.old ≤ K.faults sink.new }
     ensures cause { OnErr result (Rose (K.faults sink.old) (K.faults sink.new)) }
 {
     match event {
@@ -138,7 +138,7 @@ pub fn print_line<K: Sink>(journal: &Journal, index: u32, sink: &mut K) -> Resul
     requires within { index < length journal.now.history }
     ensures ok { OnOk result (Gains (K.held sink.old) (K.held sink.new) (Line.line_at index journal.now.history)) }
     ensures err { OnErr result (AppendsPart (K.held sink.old) (K.held sink.new) (Line.line_at index journal.now.history)) }
-    ensures count { Climbs (K.faults sink.old) (K.faults sink.new) }
+    ensures count { K.faults sink.old ≤ K.faults sink.new }
     ensures cause { OnErr result (Rose (K.faults sink.old) (K.faults sink.new)) }
 {
     print_event(journal, &journal.entry(index).event, sink)
@@ -154,7 +154,7 @@ pub fn print_from<K: Sink>(journal: &Journal, from: u32, sink: &mut K) -> Result
         → OnOk result (Gains start (K.held sink.new) (Line.answers_text journal.now.history)) }
     ensures err { (start : Option (List ℕ)) → Gains start (K.held sink.old) (Line.answers_text (prefix from journal.now.history))
         → OnErr result (AppendsPart start (K.held sink.new) (Line.answers_text journal.now.history)) }
-    ensures count { Climbs (K.faults sink.old) (K.faults sink.new) }
+    ensures count { K.faults sink.old ≤ K.faults sink.new }
     ensures cause { OnErr result (Rose (K.faults sink.old) (K.faults sink.new)) }
 {
     for index in from..journal.len() {
@@ -169,7 +169,7 @@ pub fn print_end<K: Sink>(journal: &Journal, sink: &mut K) -> Result<(), SinkFai
     requires { Lawful journal.now.history }
     ensures ok { OnOk result (Gains (K.held sink.old) (K.held sink.new) (Line.end_line journal.now.history)) }
     ensures err { OnErr result (AppendsPart (K.held sink.old) (K.held sink.new) (Line.end_line journal.now.history)) }
-    ensures count { Climbs (K.faults sink.old) (K.faults sink.new) }
+    ensures count { K.faults sink.old ≤ K.faults sink.new }
     ensures cause { OnErr result (Rose (K.faults sink.old) (K.faults sink.new)) }
 {
     let tally = counted(journal);

@@ -2,6 +2,7 @@
 
 ghost use Rattle.std.specs.Prelude.{◌≡◌, IfOk, codes};
 ghost use Rattle.fnc_core.specs.Plain.{plain, default_allowed};
+ghost use Rattle.fnc_desk.specs.Inputs.{plain_registration};
 
 use fnc_journal::{
     Actions, Allowed, Base, Definition, HostCheck, NoMemory, Registration, Sequence, Text,
@@ -55,7 +56,7 @@ fn definition(alloc: Global) -> Result<Definition, NoMemory>
 
 /// The registration of a device of this name without options: its agent is `fence_model`.
 pub(crate) fn registration(alloc: Global, name: &str) -> Result<Registration, NoMemory>
-    ensures { IfOk result (λ r. r.definition ≡ plain) }
+    ensures { IfOk result (λ r. r ≡ plain_registration name.now) }
 {
     Ok(Registration {
         name: Text::new(alloc, name)?,

@@ -4,8 +4,10 @@ use Rattle.fnc_journal.specs.declared.entry.Entry.{Entry}
 use Rattle.fnc_journal.specs.History.{History}
 use Rattle.fnc_journal.specs.Prefix.{prefix}
 use Rattle.fnc_journal.proofs.Prefixes.{prefix-all}
-use Rattle.fnc_core.specs.Cored.{Cored, Enters}
-use Rattle.fnc_desk.specs.Entered.{PassesTime}
+use Rattle.fnc_core.specs.Cored.{Cored}
+use Rattle.fnc_outside.specs.Events.{Happening}
+use Rattle.fnc_journal.specs.declared.outcome.Full.{Full}
+use Rattle.fnc_desk.specs.Entered.{LacksRoom}
 use Rattle.fnc_replay.specs.Rests.{ServesLine}
 
 -- a journal with more entries
@@ -14,10 +16,10 @@ pub record Grows (old new : Cored) : Type 0 where
   pub history : new.history ≡ more ++ old.history
   pub limit : new.limit ≡ old.limit
 
-pub grows-served : (old new : Cored) → ServesLine old new → Grows old new
-grows-served old new s =
-    let e : Enters old s.mid s.takes.moment s.takes.takes.event = s.takes.takes.enters in
-    let input : Entry = record { moment = s.takes.moment; event = s.takes.takes.event } in
+pub grows-served : (line : Happening) (old new : Cored) → ServesLine line old new → Grows old new
+grows-served line old new s =
+    let e = s.takes.enters in
+    let input : Entry = record { moment = s.takes.entry.moment; event = s.takes.entry.event } in
     record {
       more = s.starts.some.starts ++ (e.replies ++ (input ∷ e.advance));
       history =
@@ -26,8 +28,8 @@ grows-served old new s =
       limit = s.starts.some.limit ∙ e.limit;
     }
 
-pub grows-passed : (old new : Cored) → PassesTime old new → Grows old new
-grows-passed old new p = record { more = p.advances.advance; history = p.advances.history; limit = p.advances.limit }
+pub grows-passed : (line : Happening) (full : Full) (old new : Cored) → LacksRoom line old new full → Grows old new
+grows-passed line full old new p = record { more = p.advances.advance; history = p.advances.history; limit = p.advances.limit }
 
 prefix-append : (xs h : History) → prefix (length h) (xs ++ h) ≡ h
 prefix-append [] h = prefix-all h (length h) (omega arith)

@@ -1,5 +1,5 @@
 -- How a line, served in full, leaves the session at rest.
-use Rattle.std.proofs.Common.{ℕ, List, [], ◌∷◌, ◌++◌, Bool, true, false, ◌≡◌, ◌≤◌, ◌<◌, refl, ap, sym, ◌∙◌, subst, Option, Some, None, IsTrue, arith, inl, inr, ◌==◌, eq-eqb, eqb-true, false-eqb, ap₂, ◌+◌, length, length-append, append-nil}
+use Rattle.std.proofs.Common.{ℕ, List, [], ◌∷◌, ◌++◌, Bool, true, false, ◌≡◌, ◌≤◌, ◌<◌, refl, ap, sym, ◌∙◌, subst, Option, Some, None, IsTrue, arith, inl, inr, ◌==◌, eq-eqb, eqb-true, false-eqb, ap₂, ◌+◌, length}
 use Rattle.std.specs.Prelude.{◌⊎◌}
 use Rattle.std.specs.List.{AllByRecursion}
 use Rattle.fnc_journal.specs.declared.entry.Entry.{Entry}
@@ -15,13 +15,13 @@ use Rattle.fnc_journal.specs.Driven.{Driven, DrivenInputs, last_input, is_at_onc
 use Rattle.fnc_journal.specs.Served.{AtRest, AreReplies}
 use Rattle.fnc_journal.proofs.Lawfulness.{in_order-of}
 use Rattle.fnc_journal.proofs.DrivenSteps.{reply-no_input, rests-next, rests-same, rests-end, rests_before-output}
-use Rattle.fnc_core.specs.Cored.{Cored, Sound, Starts, start_of}
-use Rattle.fnc_desk.specs.Entered.{TakesLine, PassesTime, IsFullLine}
+use Rattle.fnc_core.specs.Cored.{Cored, IsFull, Sound, Starts, start_of}
+use Rattle.fnc_desk.specs.Entered.{TakesLine, LacksRoom}
+use Rattle.fnc_desk.proofs.Counting.{given-is_input}
 use Rattle.fnc_replay.specs.Rests.{Rests, AreStarts, StartsSome, StartsAll, ServesLine}
-use Rattle.fnc_replay.specs.Session.{Wrote, EndsBy, HasCause, IsServed, Turns, Gave, cored}
+use Rattle.fnc_replay.specs.Session.{Wrote, EndsBy, HasCause, IsServed, Turns, cored}
 use Rattle.fnc_outside.specs.Events.{Happening}
-use Rattle.fnc_outside.specs.Told.{Gains}
-use Rattle.fnc_outside.proofs.Telling.{gains-gains, then-rose}
+use Rattle.fnc_outside.proofs.Telling.{then-rose}
 
 start-no_input : (event : Event) → is_start event ≡ true → is_input event ≡ false
 start-no_input (Event.Start run req slot reg kind attempt) q = refl
@@ -38,19 +38,19 @@ start-no_input (Event.Refused line cause) q = cc
 start-no_input (Event.Reply req answer) q = cc
 
 -- outputs of one moment
-abbrev AreOutputs : ℕ → History → Type 0
+abbrev pub AreOutputs : ℕ → History → Type 0
 AreOutputs m xs = AllByRecursion (λ e. (is_input e.event ≡ false) × (e.moment ≡ m)) xs
 
-outputs-starts : (m : ℕ) (xs : History) → AreStarts m xs → AreOutputs m xs
+pub outputs-starts : (m : ℕ) (xs : History) → AreStarts m xs → AreOutputs m xs
 outputs-starts m [] a = tt
 outputs-starts m (x ∷ xs) a = ((start-no_input x.event a.0.0, a.0.1), outputs-starts m xs a.1)
 
-outputs-replies : (m : ℕ) (xs : History) → AreReplies m xs → AreOutputs m xs
+pub outputs-replies : (m : ℕ) (xs : History) → AreReplies m xs → AreOutputs m xs
 outputs-replies m [] a = tt
 outputs-replies m (x ∷ xs) a = ((reply-no_input x.event a.0.0, a.0.1), outputs-replies m xs a.1)
 
 -- outputs change neither the last input nor that each input was served
-last_input-outputs : (m : ℕ) (xs h : History) → AreOutputs m xs → last_input (xs ++ h) ≡ last_input h
+pub last_input-outputs : (m : ℕ) (xs h : History) → AreOutputs m xs → last_input (xs ++ h) ≡ last_input h
 last_input-outputs m [] h a = refl
 last_input-outputs m (x ∷ xs) h a = rw a.0.0 (last_input-outputs m xs h a.1)
 
@@ -112,61 +112,64 @@ served-before old m rs r later still a l = go r.rest
     go (inr t) = rest t (either old.last m later)
 
 -- a line that was entered and whose starts were made is served
-pub rests-served : (old mid new : Cored) → Rests old → TakesLine old mid → StartsAll mid new → Sound new → Rests new
-rests-served old mid new r t s k = record { inputs = subst DrivenInputs (sym whole) driven; rest = inr (record { last = last_is; at_once = once; settled_now = k.settled_now; idle = s.idle }) }
+pub rests-served : (line : Happening) (old mid new : Cored) → Rests old → TakesLine line old mid → StartsAll mid new → Sound new → Rests new
+rests-served line old mid new r t s k = record { inputs = subst DrivenInputs (sym whole) driven; rest = inr (record { last = last_is; at_once = once; settled_now = k.settled_now; idle = s.idle }) }
   where
+    is-line : is_input t.entry.event ≡ true
+    is-line = given-is_input line old.history old.last _ t.entry t.is
+
     lead : History
-    lead = t.takes.enters.advance ++ old.history
+    lead = t.enters.advance ++ old.history
 
     input : Entry
-    input = record { moment = t.moment; event = t.takes.event }
+    input = record { moment = t.entry.moment; event = t.entry.event }
 
-    outputs : AreOutputs t.moment t.takes.enters.replies
-    outputs = outputs-replies t.moment t.takes.enters.replies t.takes.enters.answered
+    outputs : AreOutputs t.entry.moment t.enters.replies
+    outputs = outputs-replies t.entry.moment t.enters.replies t.enters.answered
 
-    starts : AreOutputs t.moment s.some.starts
-    starts = outputs-starts t.moment s.some.starts (subst (λ n. AreStarts n s.some.starts) t.takes.enters.last s.some.started)
+    starts : AreOutputs t.entry.moment s.some.starts
+    starts = outputs-starts t.entry.moment s.some.starts (subst (λ n. AreStarts n s.some.starts) t.enters.last s.some.started)
 
-    whole : new.history ≡ s.some.starts ++ (t.takes.enters.replies ++ input ∷ lead)
-    whole = s.some.history ∙ ap (λ (h : History). s.some.starts ++ h) t.takes.enters.history
+    whole : new.history ≡ s.some.starts ++ (t.enters.replies ++ input ∷ lead)
+    whole = s.some.history ∙ ap (λ (h : History). s.some.starts ++ h) t.enters.history
 
-    now : new.last ≡ t.moment
-    now = s.some.last ∙ t.takes.enters.last
+    now : new.last ≡ t.entry.moment
+    now = s.some.last ∙ t.enters.last
 
     lawful : Lawful lead
-    lawful = (Lawful-drop t.takes.enters.replies (input ∷ lead) (Lawful-drop s.some.starts (t.takes.enters.replies ++ input ∷ lead) (subst Lawful whole k.lawful))).1
+    lawful = (Lawful-drop t.enters.replies (input ∷ lead) (Lawful-drop s.some.starts (t.enters.replies ++ input ∷ lead) (subst Lawful whole k.lawful))).1
 
     served : IsTrue (rests_before input lead)
     served =
-        let is : is_input input.event ≡ true = t.takes.input in
-        rw is (served-before old t.moment t.takes.enters.advance r t.later t.takes.enters.still t.takes.enters.at_once lawful)
+        let is : is_input input.event ≡ true = is-line in
+        rw is (served-before old t.entry.moment t.enters.advance r t.later t.enters.still t.enters.at_once lawful)
 
-    driven : DrivenInputs (s.some.starts ++ (t.takes.enters.replies ++ input ∷ lead))
+    driven : DrivenInputs (s.some.starts ++ (t.enters.replies ++ input ∷ lead))
     driven =
-        inputs-outputs t.moment s.some.starts (t.takes.enters.replies ++ input ∷ lead) starts
-        (inputs-outputs t.moment t.takes.enters.replies (input ∷ lead) outputs
-        (served, inputs-outputs t.moment t.takes.enters.advance old.history (outputs-replies t.moment t.takes.enters.advance t.takes.enters.at_once) r.inputs))
+        inputs-outputs t.entry.moment s.some.starts (t.enters.replies ++ input ∷ lead) starts
+        (inputs-outputs t.entry.moment t.enters.replies (input ∷ lead) outputs
+        (served, inputs-outputs t.entry.moment t.enters.advance old.history (outputs-replies t.entry.moment t.enters.advance t.enters.at_once) r.inputs))
 
-    last_here : last_input (input ∷ lead) ≡ Some t.moment
-    last_here = let is : is_input input.event ≡ true = t.takes.input in rw is refl
+    last_here : last_input (input ∷ lead) ≡ Some t.entry.moment
+    last_here = let is : is_input input.event ≡ true = is-line in rw is refl
 
     last_is : last_input new.history ≡ Some new.last
     last_is =
         ap last_input whole
-        ∙ last_input-outputs t.moment s.some.starts (t.takes.enters.replies ++ input ∷ lead) starts
-        ∙ last_input-outputs t.moment t.takes.enters.replies (input ∷ lead) outputs
+        ∙ last_input-outputs t.entry.moment s.some.starts (t.enters.replies ++ input ∷ lead) starts
+        ∙ last_input-outputs t.entry.moment t.enters.replies (input ∷ lead) outputs
         ∙ last_here
         ∙ ap Some (sym now)
 
-    once_here : is_at_once t.moment (input ∷ lead) ≡ true
-    once_here = let is : is_input input.event ≡ true = t.takes.input in rw is refl
+    once_here : is_at_once t.entry.moment (input ∷ lead) ≡ true
+    once_here = let is : is_input input.event ≡ true = is-line in rw is refl
 
     once : is_at_once new.last new.history ≡ true
     once =
         ap (λ n. is_at_once n new.history) now
-        ∙ ap (is_at_once t.moment) whole
-        ∙ at_once-outputs t.moment s.some.starts (t.takes.enters.replies ++ input ∷ lead) starts
-        (at_once-outputs t.moment t.takes.enters.replies (input ∷ lead) outputs once_here)
+        ∙ ap (is_at_once t.entry.moment) whole
+        ∙ at_once-outputs t.entry.moment s.some.starts (t.enters.replies ++ input ∷ lead) starts
+        (at_once-outputs t.entry.moment t.enters.replies (input ∷ lead) outputs once_here)
 
 -- at rest the journal is Driven
 pub driven-rests : (v : Cored) → Rests v → Driven v.history
@@ -177,24 +180,24 @@ driven-rests v r = (go r.rest, r.inputs)
     go (inr t) = rests-same v.last None v.history t
 
 -- and after one more advance
-pub driven-passed : (old new : Cored) → Rests old → PassesTime old new → Sound new → Driven new.history
-driven-passed old new r p k = (subst (λ h. rests None h ≡ true) (sym p.advances.history) (go r.rest), subst DrivenInputs (sym p.advances.history) driven)
+pub driven-passed : (line : Happening) (full : Full) (old new : Cored) → Rests old → LacksRoom line old new full → Sound new → Driven new.history
+driven-passed line full old new r p k = (subst (λ h. rests None h ≡ true) (sym p.advances.history) (go r.rest), subst DrivenInputs (sym p.advances.history) driven)
   where
     driven : DrivenInputs (p.advances.advance ++ old.history)
-    driven = inputs-outputs p.moment p.advances.advance old.history (outputs-replies p.moment p.advances.advance p.advances.at_once) r.inputs
+    driven = inputs-outputs p.entry.moment p.advances.advance old.history (outputs-replies p.entry.moment p.advances.advance p.advances.at_once) r.inputs
 
-    rest : AtRest old.last old.history → (b : Bool) → (old.last == p.moment) ≡ b → rests None (p.advances.advance ++ old.history) ≡ true
-    rest t true e = ap (λ (xs : History). rests None (xs ++ old.history)) (p.advances.still (eqb-true old.last p.moment e)) ∙ rests-same old.last None old.history t
+    rest : AtRest old.last old.history → (b : Bool) → (old.last == p.entry.moment) ≡ b → rests None (p.advances.advance ++ old.history) ≡ true
+    rest t true e = ap (λ (xs : History). rests None (xs ++ old.history)) (p.advances.still (eqb-true old.last p.entry.moment e)) ∙ rests-same old.last None old.history t
     rest t false e =
-        let other : old.last ≡ p.moment → ⊥ = false-eqb old.last p.moment (sym e) in
-        rests-end old.last p.moment p.advances.advance old.history (omega (arith, p.later, other)) p.advances.at_once t
+        let other : old.last ≡ p.entry.moment → ⊥ = false-eqb old.last p.entry.moment (sym e) in
+        rests-end old.last p.entry.moment p.advances.advance old.history (omega (arith, p.later, other)) p.advances.at_once t
 
     go : (old.history ≡ []) ⊎ AtRest old.last old.history → rests None (p.advances.advance ++ old.history) ≡ true
     go (inl e) =
         let none : p.advances.advance ≡ [] =
-        replies-none p.moment p.advances.advance (subst Lawful (empty-append p.advances.advance old.history e) (subst Lawful p.advances.history k.lawful)) p.advances.at_once in
+        replies-none p.entry.moment p.advances.advance (subst Lawful (empty-append p.advances.advance old.history e) (subst Lawful p.advances.history k.lawful)) p.advances.at_once in
         ap (rests None) (empty-append p.advances.advance old.history e ∙ none)
-    go (inr t) = rest t (old.last == p.moment) refl
+    go (inr t) = rest t (old.last == p.entry.moment) refl
 
 -- no start yet, and one more
 pub starts-none : (v : Cored) → StartsSome v v
@@ -210,9 +213,9 @@ starts-more old mid new run a b = record {
 }
 
 -- what a turn that served a line, or found no room for it, leaves
-pub turns-served : (r : Option Outcome) (old new : Cored) → ServesLine old new → Sound new → Turns r old new
-turns-served None old new s k = λ r. rests-served old s.mid new r s.takes s.starts k
-turns-served (Some outcome) old new s k = λ r. driven-rests new (rests-served old s.mid new r s.takes s.starts k)
+pub turns-served : (r : Option Outcome) (line : Happening) (old new : Cored) → ServesLine line old new → Sound new → Turns r old new
+turns-served None line old new s k = λ r. rests-served line old s.mid new r s.takes s.starts k
+turns-served (Some outcome) line old new s k = λ r. driven-rests new (rests-served line old s.mid new r s.takes s.starts k)
 
 -- a journal that is handed back
 pub served-driven : (v : Cored) → Sound v → Driven v.history → IsServed v.history
@@ -230,43 +233,25 @@ wrote-later Outcome.NoMemory before after f g k h l w = w
 wrote-later (Outcome.Unlawful index rule) before after f g k h l w = w
 wrote-later (Outcome.BadEntry line) before after f g k h l w = w
 
-full-cored : (v : Cored) (j : Journaled) (full : Full) → j.history ≡ v.history → j.limit ≡ v.limit → IsFullLine v full → IsFullLine (cored j) full
+full-cored : (v : Cored) (j : Journaled) (full : Full) → j.history ≡ v.history → j.limit ≡ v.limit → IsFull v full.need full → IsFull (cored j) full.need full
 full-cored v j full e l f =
-    let moved : (h : History) (limit : ℕ) → h ≡ v.history → limit ≡ v.limit → IsFullLine v full → IsFullLine (record { history = h; last = last_moment h; limit = limit }) full =
+    let moved : (h : History) (limit : ℕ) → h ≡ v.history → limit ≡ v.limit → IsFull v full.need full → IsFull (record { history = h; last = last_moment h; limit = limit }) full.need full =
     λ h limit e l f. record {
-      need_of = f.need_of;
-      is_full = record {
-        says = f.is_full.says ∙ ap₂ (λ (x : History) (n : ℕ). record { entries = length x; owed = owed x; need = full.need; limit = n }) (sym e) (sym l);
-        above = subst (λ (x : History). limit < length x + owed x + full.need) (sym e) (subst (λ n. n < length v.history + owed v.history + full.need) (sym l) f.is_full.above);
-      };
+      says = f.says ∙ ap₂ (λ (x : History) (n : ℕ). record { entries = length x; owed = owed x; need = full.need; limit = n }) (sym e) (sym l);
+      above = subst (λ (x : History). limit < length x + owed x + full.need) (sym e) (subst (λ n. n < length v.history + owed v.history + full.need) (sym l) f.above);
     } in
     moved j.history j.limit e l f
 
 -- what ended a turn ended the session
-pub cause-of : (o : Outcome) (given given' left : Option (List Happening)) (reads reads0 reads' writes writes0 writes' : ℕ) (v : Cored) (j : Journaled) (made allowed : ℕ) →
+pub cause-of : (o : Outcome) (left : Option (List Happening)) (reads reads0 reads' writes writes0 writes' : ℕ) (v : Cored) (j : Journaled) (made allowed : ℕ) →
     reads ≤ reads0 → writes ≤ writes0 → j.history ≡ v.history → j.limit ≡ v.limit →
-    EndsBy o left reads0 reads' writes0 writes' v → HasCause o given given' left reads reads' writes writes' j made allowed
-cause-of Outcome.Finished given given' left reads reads0 reads' writes writes0 writes' v j made allowed r w h l e = e
-cause-of Outcome.ReadFault given given' left reads reads0 reads' writes writes0 writes' v j made allowed r w h l e = then-rose reads reads0 reads' r e
-cause-of Outcome.WriteFault given given' left reads reads0 reads' writes writes0 writes' v j made allowed r w h l e = then-rose writes writes0 writes' w e
-cause-of (Outcome.JournalFull full) given given' left reads reads0 reads' writes writes0 writes' v j made allowed r w h l e = full-cored v j full h l e
-cause-of Outcome.Budget given given' left reads reads0 reads' writes writes0 writes' v j made allowed r w h l e = absurd e
-cause-of Outcome.Usage given given' left reads reads0 reads' writes writes0 writes' v j made allowed r w h l e = e
-cause-of Outcome.NoMemory given given' left reads reads0 reads' writes writes0 writes' v j made allowed r w h l e = e
-cause-of (Outcome.Unlawful index rule) given given' left reads reads0 reads' writes writes0 writes' v j made allowed r w h l e = e
-cause-of (Outcome.BadEntry line) given given' left reads reads0 reads' writes writes0 writes' v j made allowed r w h l e = e
-
--- nothing so far, and one event more
-pub gains-none : {A : Type 0} (told : Option (List A)) → Gains told told []
-gains-none None = tt
-gains-none (Some xs) = rw append-nil refl
-
-pub gave-none : (told : Option (List Happening)) → Gave told told 0
-gave-none told = record { events = []; gained = gains-none told; counted = refl }
-
-pub gave-more : (before between after : Option (List Happening)) (n : ℕ) → Gave before between n → Gave between after 1 → Gave before after (n + 1)
-gave-more before between after n a b = record {
-  events = a.events ++ b.events;
-  gained = gains-gains before between after a.events b.events a.gained b.gained;
-  counted = let l = length-append a.events b.events in omega (arith, l, a.counted, b.counted);
-}
+    EndsBy o left reads0 reads' writes0 writes' v → HasCause o left reads reads' writes writes' j made allowed
+cause-of Outcome.Finished left reads reads0 reads' writes writes0 writes' v j made allowed r w h l e = e
+cause-of Outcome.ReadFault left reads reads0 reads' writes writes0 writes' v j made allowed r w h l e = then-rose reads reads0 reads' r e
+cause-of Outcome.WriteFault left reads reads0 reads' writes writes0 writes' v j made allowed r w h l e = then-rose writes writes0 writes' w e
+cause-of (Outcome.JournalFull full) left reads reads0 reads' writes writes0 writes' v j made allowed r w h l e = full-cored v j full h l e
+cause-of Outcome.Budget left reads reads0 reads' writes writes0 writes' v j made allowed r w h l e = absurd e
+cause-of Outcome.Usage left reads reads0 reads' writes writes0 writes' v j made allowed r w h l e = e
+cause-of Outcome.NoMemory left reads reads0 reads' writes writes0 writes' v j made allowed r w h l e = e
+cause-of (Outcome.Unlawful index rule) left reads reads0 reads' writes writes0 writes' v j made allowed r w h l e = e
+cause-of (Outcome.BadEntry line) left reads reads0 reads' writes writes0 writes' v j made allowed r w h l e = e

@@ -1,3 +1,4 @@
 pub mod Rests
 pub mod Session
+pub mod Heard
 pub mod Polls

@@ -6,6 +6,7 @@ use Rattle.fnc_journal.specs.Found.{is_start}
 use Rattle.fnc_journal.specs.Startable.{first}
 use Rattle.fnc_journal.specs.Driven.{DrivenInputs}
 use Rattle.fnc_journal.specs.Served.{AtRest}
+use Rattle.fnc_outside.specs.Events.{Happening}
 use Rattle.fnc_core.specs.Cored.{Cored}
 use Rattle.fnc_desk.specs.Entered.{TakesLine}
 
@@ -32,7 +33,7 @@ pub record StartsAll (old new : Cored) : Type 0 where
   pub idle : first new.history new.last ≡ None
 
 -- a line was entered, and all starts were made
-pub record ServesLine (old new : Cored) : Type 0 where
+pub record ServesLine (line : Happening) (old new : Cored) : Type 0 where
   pub mid : Cored
-  pub takes : TakesLine old mid
+  pub takes : TakesLine line old mid
   pub starts : StartsAll mid new

@@ -1,5 +1,5 @@
 -- What a session is worth at its end: what it wrote, and why it ended.
-use Rattle.std.specs.Prelude.{ℕ, List, [], ◌++◌, ◌≡◌, ◌⊎◌, length, true, Option, Some, None}
+use Rattle.std.specs.Prelude.{ℕ, List, [], ◌++◌, ◌≡◌, ◌⊎◌, true, Option, Some, None}
 use Rattle.fnc_journal.specs.declared.outcome.Outcome.{Outcome}
 use Rattle.fnc_journal.specs.History.{History, Journaled}
 use Rattle.fnc_journal.specs.Line.{answers_text, end_line}
@@ -10,8 +10,7 @@ use Rattle.fnc_outside.specs.Events.{Happening}
 use Rattle.fnc_outside.specs.Faults.{Rose}
 use Rattle.fnc_outside.specs.Told.{Gains}
 use Rattle.fnc_outside.specs.Writes.{AppendsPart}
-use Rattle.fnc_core.specs.Cored.{Cored}
-use Rattle.fnc_desk.specs.Entered.{IsFullLine}
+use Rattle.fnc_core.specs.Cored.{Cored, IsFull}
 use Rattle.fnc_replay.specs.Rests.{Rests}
 
 -- What the sink gained, where it tells what it holds. A session that finished wrote the text and the end line;
@@ -34,18 +33,12 @@ abbrev pub IsOver : Option (List Happening) → Type 0
 IsOver None = Unit {0}
 IsOver (Some events) = events ≡ []
 
--- a source gave so many events
-pub record Gave (before after : Option (List Happening)) (count : ℕ) : Type 0 where
-  pub events : List Happening
-  pub gained : Gains before after events
-  pub counted : length events ≡ count
-
 -- Why a session ended. The journal is the one that it hands back, of which a full one is said to be full.
 abbrev pub EndsBy : Outcome → Option (List Happening) → ℕ → ℕ → ℕ → ℕ → Cored → Type 0
 EndsBy Outcome.Finished left reads reads' writes writes' v = IsOver left
 EndsBy Outcome.ReadFault left reads reads' writes writes' v = Rose reads reads'
 EndsBy Outcome.WriteFault left reads reads' writes writes' v = Rose writes writes'
-EndsBy (Outcome.JournalFull full) left reads reads' writes writes' v = IsFullLine v full
+EndsBy (Outcome.JournalFull full) left reads reads' writes writes' v = IsFull v full.need full
 EndsBy _ left reads reads' writes writes' v = ⊥
 
 -- a journal that is handed back
@@ -81,6 +74,6 @@ abbrev pub cored : Journaled → Cored
 cored j = record { history = j.history; last = last_moment j.history; limit = j.limit }
 
 -- Why a session ended, with the polls that were made and those that were allowed.
-abbrev pub HasCause : Outcome → Option (List Happening) → Option (List Happening) → Option (List Happening) → ℕ → ℕ → ℕ → ℕ → Journaled → ℕ → ℕ → Type 0
-HasCause Outcome.Budget given given' left reads reads' writes writes' j made allowed = (made ≡ allowed) × Gave given given' allowed
-HasCause outcome given given' left reads reads' writes writes' j made allowed = EndsBy outcome left reads reads' writes writes' (cored j)
+abbrev pub HasCause : Outcome → Option (List Happening) → ℕ → ℕ → ℕ → ℕ → Journaled → ℕ → ℕ → Type 0
+HasCause Outcome.Budget left reads reads' writes writes' j made allowed = made ≡ allowed
+HasCause outcome left reads reads' writes writes' j made allowed = EndsBy outcome left reads reads' writes writes' (cored j)

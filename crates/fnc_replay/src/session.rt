@@ -2,7 +2,8 @@
 
 ghost use Rattle.std.specs.Prelude.{◌≡◌, ◌≤◌, ◌<◌, ◌^◌, [], IfSome, IfNone};
 ghost use Rattle.fnc_outside.specs.Told.{Gains};
-ghost use Rattle.fnc_replay.specs.Session.{Wrote, HasCause, IsServed};
+ghost use Rattle.fnc_replay.specs.Session.{Wrote, HasCause, IsServed, cored};
+ghost use Rattle.fnc_replay.specs.Heard.{Heard};
 
 use crate::turn::turn;
 use fnc_desk::Desk;
@@ -45,8 +46,10 @@ pub fn replay<S: Source + Drop, K: Sink + Drop>(
     ensures text { IfSome result.journal (λ j.
         Wrote result.outcome (K.held sink) (K.held result.sink) (K.faults sink) (K.faults result.sink) j.history) }
     ensures cause { IfSome result.journal (λ j.
-        HasCause result.outcome (S.given source) (S.given result.source) (S.left result.source) (S.faults source) (S.faults result.source)
+        HasCause result.outcome (S.left result.source) (S.faults source) (S.faults result.source)
         (K.faults sink) (K.faults result.sink) j result.polls polls) }
+    ensures heard { IfSome result.journal (λ j.
+        Heard result.outcome (S.given source) (S.given result.source) result.polls (cored j)) }
     ensures polls { result.polls ≤ polls }
 {
     let (Ok(mut desk), Ok(mut line)) = (

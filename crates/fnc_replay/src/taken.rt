@@ -1,10 +1,8 @@
 // What one poll of the source does to the desk.
 
-ghost use Rattle.std.specs.Prelude.{◌≡◌, [], IfErr, OnOk, OnErr};
-ghost use Rattle.fnc_desk.specs.Entered.{PassesTime, IsFullLine};
-ghost use Rattle.fnc_desk.specs.Printed.{Climbs};
-ghost use Rattle.fnc_replay.specs.Rests.{ServesLine};
-ghost use Rattle.fnc_replay.specs.Polls.{Takes, Gives, taken_by};
+ghost use Rattle.std.specs.Prelude.{◌≤◌, ◌≡◌, ℕ, []};
+ghost use Rattle.fnc_outside.specs.Events.{Happening};
+ghost use Rattle.fnc_replay.specs.Polls.{Serves, Takes};
 
 use crate::starts::start_all;
 use fnc_desk::Desk;
@@ -22,31 +20,28 @@ pub(crate) enum Taken {
     Failed,
 }
 
-fn serve(desk: &mut Desk, line: &LineBuf) -> Result<(), Full>
-    ensures ok { OnOk result (ServesLine desk.old desk.new) }
-    ensures full { IfErr result (IsFullLine desk.new) }
-    ensures err { OnErr result (PassesTime desk.old desk.new) }
+/// Enters a line, and makes the starts that it lets be made.
+fn serve(desk: &mut Desk, line: &[u8]) -> Taken
+    ensures { Serves result (Happening.Line line.now) desk.old desk.new }
 {
-    desk.enter(line.bytes())?;
-    start_all(desk);
-    Ok(())
+    match desk.enter(line) {
+        Ok(()) => {
+            start_all(desk);
+            Taken::Served
+        }
+        Err(full) => Taken::Full(full),
+    }
 }
 
-fn serve_long(desk: &mut Desk) -> Result<(), Full>
-    ensures ok { OnOk result (ServesLine desk.old desk.new) }
-    ensures full { IfErr result (IsFullLine desk.new) }
-    ensures err { OnErr result (PassesTime desk.old desk.new) }
+/// Enters a line that was too long to be read.
+fn serve_long(desk: &mut Desk) -> Taken
+    ensures { (size : ℕ) → Serves result (Happening.TooLong size) desk.old desk.new }
 {
-    desk.enter_long()?;
-    start_all(desk);
-    Ok(())
-}
-
-fn outcome_of(served: Result<(), Full>) -> Taken
-    ensures { result ≡ taken_by served }
-{
-    match served {
-        Ok(()) => Taken::Served,
+    match desk.enter_long() {
+        Ok(()) => {
+            start_all(desk);
+            Taken::Served
+        }
         Err(full) => Taken::Full(full),
     }
 }
@@ -54,18 +49,19 @@ fn outcome_of(served: Result<(), Full>) -> Taken
 /// Polls the source once, and serves what it gave.
 pub(crate) fn take<S: Source>(source: &mut S, desk: &mut Desk, line: &mut LineBuf) -> Taken
     requires { line.old.bytes ≡ [] }
-    ensures takes { Takes result desk.old desk.new (S.left source.new) (S.faults source.old) (S.faults source.new) }
-    ensures gives { Gives result (S.given source.old) (S.given source.new) }
-    ensures reads { Climbs (S.faults source.old) (S.faults source.new) }
+    ensures takes { Takes result desk.old desk.new (S.given source.old) (S.given source.new) (S.left source.new) (S.faults source.old) (S.faults source.new) }
+    ensures reads { S.faults source.old ≤ S.faults source.new }
     ensures empty { line.new.bytes ≡ [] }
 {
-    let served = match source.poll(line) {
-        Polled::Line => serve(desk, line),
+    match source.poll(line) {
+        Polled::Line => {
+            let taken = serve(desk, line.bytes());
+            line.clear();
+            taken
+        }
         Polled::TooLong => serve_long(desk),
-        Polled::Again => return Taken::Nothing,
-        Polled::End => return Taken::Over,
-        Polled::Failed => return Taken::Failed,
-    };
-    line.clear();
-    outcome_of(served)
+        Polled::Again => Taken::Nothing,
+        Polled::End => Taken::Over,
+        Polled::Failed => Taken::Failed,
+    }
 }

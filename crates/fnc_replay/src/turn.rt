@@ -1,12 +1,13 @@
 // One turn of a session: a poll, and the lines of what it made.
 
-ghost use Rattle.std.specs.Prelude.{◌≡◌, ◌≤◌, [], ℕ, List, Option, length, IfSome, IfNone};
+ghost use Rattle.std.specs.Prelude.{◌≡◌, ◌≤◌, ◌+◌, [], ℕ, List, Option, length, IfSome};
 ghost use Rattle.fnc_journal.specs.Lawful.{Lawful};
 ghost use Rattle.fnc_journal.specs.Line.{answers_text};
 ghost use Rattle.fnc_journal.specs.Prefix.{prefix};
+ghost use Rattle.fnc_outside.specs.Events.{Happening};
 ghost use Rattle.fnc_outside.specs.Told.{Gains};
-ghost use Rattle.fnc_desk.specs.Printed.{Climbs};
-ghost use Rattle.fnc_replay.specs.Session.{Wrote, EndsBy, EndsWriting, IsWriteFault, Puts, Gave, Turns};
+ghost use Rattle.fnc_replay.specs.Session.{Wrote, EndsBy, EndsWriting, IsWriteFault, Puts, Turns};
+ghost use Rattle.fnc_replay.specs.Heard.{HeardSoFar, HearsOn};
 
 use crate::taken::{Taken, take};
 use fnc_desk::{Desk, print_end, print_from};
@@ -19,7 +20,7 @@ fn finish<K: Sink>(journal: &Journal, sink: &mut K) -> Outcome
     ensures text { (start : Option (List ℕ)) → Gains start (K.held sink.old) (answers_text journal.now.history)
         → Wrote result start (K.held sink.new) (K.faults sink.old) (K.faults sink.new) journal.now.history }
     ensures cause { EndsWriting result (K.faults sink.old) (K.faults sink.new) }
-    ensures writes { Climbs (K.faults sink.old) (K.faults sink.new) }
+    ensures writes { K.faults sink.old ≤ K.faults sink.new }
 {
     match print_end(journal, sink) {
         Ok(()) => Outcome::Finished,
@@ -34,7 +35,7 @@ fn write_on<K: Sink>(journal: &Journal, from: u32, sink: &mut K) -> Option<Outco
     ensures text { (start : Option (List ℕ)) → Gains start (K.held sink.old) (answers_text (prefix from journal.now.history))
         → Puts result start (K.held sink.new) (K.faults sink.old) (K.faults sink.new) journal.now.history }
     ensures cause { IfSome result (λ o. IsWriteFault o (K.faults sink.old) (K.faults sink.new)) }
-    ensures writes { Climbs (K.faults sink.old) (K.faults sink.new) }
+    ensures writes { K.faults sink.old ≤ K.faults sink.new }
 {
     match print_from(journal, from, sink) {
         Ok(()) => None,
@@ -49,12 +50,11 @@ fn write_full<K: Sink>(journal: &Journal, from: u32, sink: &mut K, full: Full) -
     ensures text { (start : Option (List ℕ)) → Gains start (K.held sink.old) (answers_text (prefix from journal.now.history))
         → Wrote result start (K.held sink.new) (K.faults sink.old) (K.faults sink.new) journal.now.history }
     ensures outcome { result ≡ Outcome.JournalFull full }
-    ensures writes { Climbs (K.faults sink.old) (K.faults sink.new) }
+    ensures writes { K.faults sink.old ≤ K.faults sink.new }
 {
-    match print_from(journal, from, sink) {
-        Ok(()) => Outcome::JournalFull(full),
-        Err(_) => Outcome::JournalFull(full),
-    }
+    // the session ends here, whether or not its last lines can be written
+    let _ = print_from(journal, from, sink);
+    Outcome::JournalFull(full)
 }
 
 /// One turn: polls the source once, serves what it gave, and writes the lines of what that made. None
@@ -71,10 +71,11 @@ pub(crate) fn turn<S: Source, K: Sink>(
     ensures turns { Turns result desk.old desk.new }
     ensures cause { IfSome result (λ o.
         EndsBy o (S.left source.new) (S.faults source.old) (S.faults source.new) (K.faults sink.old) (K.faults sink.new) desk.new) }
-    ensures gave { IfNone result (Gave (S.given source.old) (S.given source.new) 1) }
+    ensures heard { (start : Option (List Happening)) (made : ℕ) → HeardSoFar start (S.given source.old) made desk.old
+        → HearsOn result start (S.given source.new) (made + 1) desk.new }
     ensures limit { desk.new.limit ≡ desk.old.limit }
-    ensures reads { Climbs (S.faults source.old) (S.faults source.new) }
-    ensures writes { Climbs (K.faults sink.old) (K.faults sink.new) }
+    ensures reads { S.faults source.old ≤ S.faults source.new }
+    ensures writes { K.faults sink.old ≤ K.faults sink.new }
     ensures empty { line.new.bytes ≡ [] }
 {
     let written = desk.journal().len();

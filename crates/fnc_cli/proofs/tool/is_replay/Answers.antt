@@ -1,5 +1,5 @@
 -- The one word is compared as its bytes.
-use Rattle.std.proofs.Common.{◌≡◌, ◌∷◌, [], ℕ, List, codes, true, sym, ◌∙◌}
+use Rattle.std.proofs.Common.{codes, sym, ◌∙◌}
 use Rattle.std.proofs.lemmas.Slice.Eq.{bytes_eq-Decides}
 use Rattle.fnc_cli.proofs.Words.{one-word}
 use Rattle.fnc_cli.proofs.tool.is_replay.Goals as goal

@@ -6,7 +6,7 @@ use Rattle.fnc_journal.specs.History.{History}
 use Rattle.fnc_journal.specs.Line.{answers_text}
 use Rattle.fnc_journal.proofs.Prefixes.{prefix-all}
 use Rattle.fnc_desk.proofs.Lines.{text-front, text-more}
-use Rattle.fnc_desk.proofs.Pieces.{climbs-then, on-err}
+use Rattle.fnc_desk.proofs.Pieces.{on-err}
 use Rattle.fnc_desk.proofs.output.print_from.Goals as goal
 
 pub returns-in_err-print_line-clause-err : goal.returns-in_err-print_line-clause-err
@@ -27,7 +27,7 @@ loop-index-preserved g c =
       printed = λ start before.
           subst (Gains start (g.K.Sink.held c.print_line.new.sink)) (sym (text-more h c.loop-index.index less))
           (gains-gains _ _ _ _ _ (c.loop-index.invariant.printed start before) c.in_ok-print_line.ensures.ok);
-      count = climbs-then _ _ _ c.loop-index.invariant.count c.in_ok-print_line.ensures.count;
+      count = omega (arith, c.loop-index.invariant.count, c.in_ok-print_line.ensures.count);
     }
 
 pub returns-clause-ok : goal.returns-clause-ok

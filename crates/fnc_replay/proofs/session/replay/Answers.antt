@@ -2,7 +2,8 @@
 use Rattle.std.proofs.Common.{sym, ◌∙◌, subst, arith}
 use Rattle.fnc_journal.specs.History.{History}
 use Rattle.fnc_replay.specs.Session.{IsServed}
-use Rattle.fnc_replay.proofs.Resting.{gave-more, driven-rests, served-driven}
+use Rattle.fnc_replay.proofs.Resting.{driven-rests, served-driven}
+use Rattle.fnc_replay.proofs.Hearing.{heard-cored}
 use Rattle.fnc_replay.proofs.session.replay.Goals as goal
 
 pub loop-made-preserved : goal.loop-made-preserved
@@ -14,10 +15,15 @@ loop-made-preserved g c =
       empty = turned.empty;
       limit = turned.limit ∙ before.limit;
       text = turned.text (g.K.Sink.held c.args.sink) before.text;
-      gave = gave-more _ _ _ _ before.gave turned.gave;
-      reads = (omega (arith, before.reads.0, turned.reads.0), λ k. turned.reads.1 (before.reads.1 k));
-      writes = (omega (arith, before.writes.0, turned.writes.0), λ k. turned.writes.1 (before.writes.1 k));
+      heard = turned.heard _ _ before.heard;
+      reads = omega (arith, before.reads, turned.reads);
+      writes = omega (arith, before.writes, turned.writes);
     }
 
 pub returns-clause-served : goal.returns-clause-served
 returns-clause-served g c = subst (λ (h : History). IsServed h) (sym c.into_journal-2.ensures.history) (served-driven _ c.into_journal-2.ensures.sound (driven-rests _ c.loop-made.invariant.rests))
+
+pub returns-in-Some-clause-heard : goal.returns-in-Some-clause-heard
+returns-in-Some-clause-heard g c =
+    heard-cored c.in-Some.outcome _ _ _ c.turn.new.desk c.into_journal.result c.into_journal.ensures.history c.into_journal.ensures.limit
+    (c.in-Some.ensures.heard _ c.loop-made.made c.loop-made.invariant.heard)

@@ -1,0 +1,80 @@
+-- Each line that is taken gives one input entry.
+use Rattle.std.proofs.Common.{ℕ, [], ◌∷◌, ◌++◌, Bool, true, false, ◌≡◌, ◌+◌, ◌==◌, ◌&&◌, not, cond, nat_le, inl, inr, refl, ap, ◌∙◌}
+use Rattle.fnc_journal.specs.declared.cause.Cause.{Cause}
+use Rattle.fnc_journal.specs.declared.entry.Entry.{Entry}
+use Rattle.fnc_journal.specs.declared.entry.Exit.{Exit}
+use Rattle.fnc_journal.specs.declared.entry.Event.{Event}
+use Rattle.fnc_journal.specs.History.{History}
+use Rattle.fnc_journal.specs.Found.{devices, is_input, is_reply}
+use Rattle.fnc_journal.specs.Served.{AreReplies}
+use Rattle.fnc_journal.specs.Startable.{is_alive}
+use Rattle.fnc_outside.specs.Events.{Happening}
+use Rattle.fnc_core.specs.Cored.{Cored, Enters}
+use Rattle.fnc_desk.specs.Said.{Said, said}
+use Rattle.fnc_desk.specs.Entered.{TakesLine, TakesInput}
+use Rattle.fnc_desk.specs.Inputs.{Gives, IsInput, device_input, has_operation, input_of, inputs, refused, request_input}
+
+reply-is_output : (event : Event) → is_reply event ≡ true → is_input event ≡ false
+reply-is_output (Event.Reply req answer) e = refl
+reply-is_output (Event.Device reg registration) e = cc
+reply-is_output (Event.Gone reg) e = cc
+reply-is_output (Event.Level target index devices) e = cc
+reply-is_output (Event.LevelGone target index) e = cc
+reply-is_output (Event.Agent name description) e = cc
+reply-is_output (Event.Ask req lead client kind target total coin scope) e = cc
+reply-is_output (Event.Exit run exit listed) e = cc
+reply-is_output Event.Pass e = cc
+reply-is_output (Event.Confirm client target) e = cc
+reply-is_output (Event.Refused line cause) e = cc
+reply-is_output (Event.Start run req slot reg kind attempt) e = cc
+
+-- replies are no inputs
+pub inputs-replies : (m : ℕ) (rs h : History) → AreReplies m rs → inputs (rs ++ h) ≡ inputs h
+inputs-replies m [] h a = refl
+inputs-replies m (r ∷ rs) h a = rw (reply-is_output r.event a.0.0) (inputs-replies m rs h a.1)
+
+-- what a line calls for is an input
+called-is_input : (s : Said) (h : History) (last n : ℕ) → is_input (input_of s h last n).event ≡ true
+called-is_input (Said.Device m name) h last n = go (nat_le last m && (devices h == 0))
+  where
+    go : (b : Bool) → is_input (cond b (device_input m name) (refused last n Cause.UnknownVerb)).event ≡ true
+    go true = refl
+    go false = refl
+called-is_input (Said.Ask m client target) h last n = go (nat_le last m && (devices h == 1) && not (has_operation target h))
+  where
+    go : (b : Bool) → is_input (cond b (request_input m client target h) (refused last n Cause.UnknownVerb)).event ≡ true
+    go true = refl
+    go false = refl
+called-is_input (Said.Exit m run code) h last n = go (nat_le last m) (is_alive run h)
+  where
+    go : (b c : Bool) → is_input (cond b (cond c (record { moment = m; event = Event.Exit (record { 0 = run }) (Exit.Code code) false }) (refused m n Cause.UnknownRun)) (refused last n Cause.UnknownVerb)).event ≡ true
+    go true true = refl
+    go true false = refl
+    go false c = refl
+called-is_input Said.Other h last n = refl
+
+or-no-memory : (input e : Entry) (n : ℕ) → is_input input.event ≡ true → IsInput input n e → is_input e.event ≡ true
+or-no-memory input e n i (inl k) = ap (λ (d : Entry). is_input d.event) k ∙ i
+or-no-memory input e n i (inr k) = ap (λ (d : Entry). is_input d.event) k.1
+
+-- what a line gives is an input
+pub given-is_input : (x : Happening) (h : History) (last n : ℕ) (e : Entry) → Gives x h last n e → is_input e.event ≡ true
+given-is_input (Happening.Line bytes) h last n e g = or-no-memory _ e n (called-is_input (said bytes) h last n) g
+given-is_input (Happening.TooLong size) h last n e g = ap (λ (d : Entry). is_input d.event) g
+given-is_input Happening.Again h last n e g = absurd g
+
+-- so there is one input more
+entered-counted : (old new : Cored) (e : Entry) → is_input e.event ≡ true → Enters old new e.moment e.event → inputs new.history ≡ inputs old.history + 1
+entered-counted old new e is n =
+    ap inputs n.history
+    ∙ inputs-replies e.moment n.replies (e ∷ (n.advance ++ old.history)) n.answered
+    ∙ rw is (ap (λ k. k + 1) (inputs-replies e.moment n.advance old.history n.at_once))
+
+pub line-counted : (x : Happening) (old new : Cored) → TakesLine x old new → inputs new.history ≡ inputs old.history + 1
+line-counted x old new t = entered-counted old new t.entry (given-is_input x old.history old.last _ t.entry t.is) t.enters
+
+pub said-counted : (s : Said) (old new : Cored) (last n : ℕ) → TakesInput (input_of s old.history last n) old new → inputs new.history ≡ inputs old.history + 1
+said-counted s old new last n t = entered-counted old new t.entry (or-no-memory _ t.entry _ (called-is_input s old.history last n) t.is) t.enters
+
+pub refused-counted : (old new : Cored) (m n : ℕ) (cause : Cause) → TakesInput (refused m n cause) old new → inputs new.history ≡ inputs old.history + 1
+refused-counted old new m n cause t = entered-counted old new t.entry (or-no-memory (refused m n cause) t.entry _ refl t.is) t.enters

@@ -1,0 +1,255 @@
+-- How the inputs of a journal go on being those of the lines that came.
+use Rattle.std.proofs.Common.{ℕ, List, [], ◌∷◌, ◌++◌, Bool, true, false, ◌≡◌, ◌+◌, ◌<◌, refl, ap, ap₂, sym, ◌∙◌, subst, Option, Some, None, arith, inl, inr, cond, length, length-append, append-nil, reverse}
+use Rattle.std.specs.Prelude.{filter, unwrap_or, IfSome}
+use Rattle.std.proofs.lemmas.List.{reverse-append}
+use Rattle.fnc_journal.specs.declared.outcome.Full.{Full}
+use Rattle.fnc_journal.specs.declared.outcome.Outcome.{Outcome}
+use Rattle.fnc_journal.specs.History.{History, Journaled}
+use Rattle.fnc_journal.specs.Driven.{last_input}
+use Rattle.fnc_journal.specs.Found.{is_input}
+use Rattle.fnc_journal.specs.Lawful.{last_moment}
+use Rattle.fnc_journal.specs.Owed.{owed}
+use Rattle.fnc_outside.specs.Events.{Happening}
+use Rattle.fnc_outside.specs.Told.{Gains}
+use Rattle.fnc_outside.proofs.Telling.{gains-gains}
+use Rattle.fnc_core.specs.Cored.{Cored, IsFull}
+use Rattle.fnc_desk.specs.Entered.{LacksRoom}
+use Rattle.fnc_desk.specs.Inputs.{Gives, inputs, line_number, need_of}
+use Rattle.fnc_desk.specs.Lines.{AreLines, FindsNoRoom, IsOfLine, NewestFindsNoRoom, is_line, last_come, newest_lines}
+use Rattle.fnc_desk.proofs.Counting.{given-is_input}
+use Rattle.fnc_replay.specs.Heard.{Heard, HeardSoFar, HearsOn, HasInputs}
+use Rattle.fnc_replay.specs.Polls.{GaveLine, Serves, Takes}
+use Rattle.fnc_replay.specs.declared.taken.Taken.{Taken}
+use Rattle.fnc_replay.specs.Rests.{ServesLine}
+use Rattle.fnc_replay.specs.Session.{EndsWriting, IsWriteFault, cored}
+use Rattle.fnc_replay.proofs.Resting.{AreOutputs, last_input-outputs, outputs-replies, outputs-starts}
+
+-- the lines of one event more
+filter-last : (xs : List Happening) (x : Happening) → filter is_line (xs ++ x ∷ []) ≡ filter is_line xs ++ filter is_line (x ∷ [])
+filter-last [] x = refl
+filter-last (y ∷ xs) x = go (is_line y) (filter-last xs x)
+  where
+    go : (b : Bool) → filter is_line (xs ++ x ∷ []) ≡ filter is_line xs ++ filter is_line (x ∷ []) →
+        cond b (y ∷ filter is_line (xs ++ x ∷ [])) (filter is_line (xs ++ x ∷ [])) ≡ cond b (y ∷ filter is_line xs) (filter is_line xs) ++ filter is_line (x ∷ [])
+    go true e = ap (λ zs. y ∷ zs) e
+    go false e = e
+
+newest-last : (xs : List Happening) (x : Happening) → newest_lines (xs ++ x ∷ []) ≡ newest_lines (x ∷ []) ++ newest_lines xs
+newest-last xs x = ap reverse (filter-last xs x) ∙ reverse-append (filter is_line xs) (filter is_line (x ∷ []))
+
+newest-line : (xs : List Happening) (x : Happening) → is_line x ≡ true → newest_lines (xs ++ x ∷ []) ≡ x ∷ newest_lines xs
+newest-line xs x e = newest-last xs x ∙ rw e refl
+
+-- there are as many inputs as lines
+inputs-lines : (h : History) (lines : List Happening) → AreLines h lines → inputs h ≡ length lines
+inputs-lines [] lines a = sym (ap length a)
+inputs-lines (e ∷ before) lines a = go (is_input e.event) lines a (inputs-lines before)
+  where
+    go : (b : Bool) (lines : List Happening) → IsOfLine b lines e before (AreLines before) → ((lines : List Happening) → AreLines before lines → inputs before ≡ length lines) →
+        cond b (inputs before + 1) (inputs before) ≡ length lines
+    go false lines a ih = ih lines a
+    go true [] a ih = absurd a
+    go true (line ∷ lines) a ih = let rest = ih lines a.1 in omega (arith, rest)
+
+-- outputs have no line
+lines-outputs : (m : ℕ) (os h : History) (lines : List Happening) → AreOutputs m os → AreLines h lines → AreLines (os ++ h) lines
+lines-outputs m [] h lines a l = l
+lines-outputs m (o ∷ os) h lines a l = rw a.0.0 (lines-outputs m os h lines a.1 l)
+
+-- a line that was served gave the newest input
+lines-served : (line : Happening) (lines : List Happening) (old new : Cored) → AreLines old.history lines → last_come old.history ≡ old.last → ServesLine line old new → AreLines new.history (line ∷ lines)
+lines-served line lines old new a l s =
+    subst (λ (h : History). AreLines h (line ∷ lines)) (sym whole)
+    (lines-outputs s.mid.last s.starts.some.starts _ (line ∷ lines) (outputs-starts s.mid.last s.starts.some.starts s.starts.some.started)
+    (lines-outputs s.takes.entry.moment s.takes.enters.replies _ (line ∷ lines) (outputs-replies s.takes.entry.moment s.takes.enters.replies s.takes.enters.answered) here))
+  where
+    whole : new.history ≡ s.starts.some.starts ++ (s.takes.enters.replies ++ s.takes.entry ∷ old.history)
+    whole =
+        s.starts.some.history
+        ∙ ap (λ (h : History). s.starts.some.starts ++ h) (s.takes.enters.history ∙ ap (λ (h : History). s.takes.enters.replies ++ s.takes.entry ∷ (h ++ old.history)) s.takes.enters.quiet)
+
+    gives : Gives line old.history (last_come old.history) (line_number (length lines)) s.takes.entry
+    gives =
+        subst (λ n. Gives line old.history n (line_number (length lines)) s.takes.entry) (sym l)
+        (subst (λ n. Gives line old.history old.last (line_number n) s.takes.entry) (inputs-lines old.history lines a) s.takes.is)
+
+    here : AreLines (s.takes.entry ∷ old.history) (line ∷ lines)
+    here = let is : is_input s.takes.entry.event ≡ true = given-is_input line old.history old.last _ s.takes.entry s.takes.is in rw is (gives, a)
+
+-- and its moment is the last
+last-served : (line : Happening) (old new : Cored) → ServesLine line old new → last_come new.history ≡ new.last
+last-served line old new s = ap (λ (o : Option ℕ). unwrap_or o 0) found ∙ sym (s.starts.some.last ∙ s.takes.enters.last)
+  where
+    is : is_input s.takes.entry.event ≡ true
+    is = given-is_input line old.history old.last _ s.takes.entry s.takes.is
+
+    found : last_input new.history ≡ Some s.takes.entry.moment
+    found =
+        ap last_input (s.starts.some.history ∙ ap (λ (h : History). s.starts.some.starts ++ h) s.takes.enters.history)
+        ∙ last_input-outputs s.mid.last s.starts.some.starts _ (outputs-starts s.mid.last s.starts.some.starts s.starts.some.started)
+        ∙ last_input-outputs s.takes.entry.moment s.takes.enters.replies _ (outputs-replies s.takes.entry.moment s.takes.enters.replies s.takes.enters.answered)
+        ∙ rw is refl
+
+-- a line that finds no room
+lacks-room : (line : Happening) (lines : List Happening) (full : Full) (old new : Cored) → AreLines old.history lines → last_come old.history ≡ old.last → LacksRoom line old new full → NewestFindsNoRoom (line ∷ lines) new full
+lacks-room line lines full old new a l k = (
+  subst (λ (h : History). AreLines h lines) (sym same) a,
+  record {
+    entry = k.entry;
+    gives =
+        subst (λ (h : History). Gives line h (last_come h) (line_number (length lines)) k.entry) (sym same)
+        (subst (λ n. Gives line old.history n (line_number (length lines)) k.entry) (sym l)
+        (subst (λ n. Gives line old.history old.last (line_number n) k.entry) (inputs-lines old.history lines a) k.is));
+    is_full = k.is_full;
+  },
+)
+  where
+    same : new.history ≡ old.history
+    same = k.advances.history ∙ ap (λ (h : History). h ++ old.history) k.advances.quiet
+
+-- what was served is what the source gave
+pub takes-line : (t : Taken) (line : Happening) (old new : Cored) (before after left : Option (List Happening)) (reads reads' : ℕ) → is_line line ≡ true → Gains before after (line ∷ []) → Serves t line old new →
+    Takes t old new before after left reads reads'
+takes-line Taken.Served line old new before after left reads reads' i g s = record { line = line; is_line_given = i; gained = g; does = s }
+takes-line (Taken.Full full) line old new before after left reads reads' i g s = record { line = line; is_line_given = i; gained = g; does = s }
+takes-line Taken.Nothing line old new before after left reads reads' i g s = absurd s
+takes-line Taken.Over line old new before after left reads reads' i g s = absurd s
+takes-line Taken.Failed line old new before after left reads reads' i g s = absurd s
+
+-- nothing was heard before the first poll
+pub heard-none : (told : Option (List Happening)) (v : Cored) → v.history ≡ [] → v.last ≡ 0 → HeardSoFar told told 0 v
+heard-none told v h l = record {
+  events = [];
+  gained = none told;
+  polled = refl;
+  inputs = subst (λ (x : History). AreLines x []) (sym h) refl;
+  last = ap last_come h ∙ sym l;
+}
+  where
+    none : {A : Type 0} (told : Option (List A)) → Gains told told []
+    none None = tt
+    none (Some xs) = sym (append-nil xs)
+
+-- no line was there yet
+pub heard-again : (start before after : Option (List Happening)) (made : ℕ) (old new : Cored) → HeardSoFar start before made old → new ≡ old → Gains before after (Happening.Again ∷ []) → HeardSoFar start after (made + 1) new
+heard-again start before after made old new k e g = subst (λ (v : Cored). HeardSoFar start after (made + 1) v) (sym e) (record {
+  events = k.events ++ Happening.Again ∷ [];
+  gained = gains-gains start before after k.events (Happening.Again ∷ []) k.gained g;
+  polled = let n = length-append k.events (Happening.Again ∷ []) in let m = k.polled in omega (arith, n, m);
+  inputs = subst (AreLines old.history) (sym (newest-last k.events Happening.Again)) k.inputs;
+  last = k.last;
+})
+
+-- a line was served
+heard-line : (start before after : Option (List Happening)) (made : ℕ) (old new : Cored) → HeardSoFar start before made old → GaveLine before after (λ line. ServesLine line old new) → HeardSoFar start after (made + 1) new
+heard-line start before after made old new k g = record {
+  events = k.events ++ g.line ∷ [];
+  gained = gains-gains start before after k.events (g.line ∷ []) k.gained g.gained;
+  polled = let n = length-append k.events (g.line ∷ []) in let m = k.polled in omega (arith, n, m);
+  inputs = subst (AreLines new.history) (sym (newest-line k.events g.line g.is_line_given)) (lines-served g.line (newest_lines k.events) old new k.inputs k.last g.does);
+  last = last-served g.line old new g.does;
+}
+
+-- and what it made was written, or a write failed
+pub heard-served : (r : Option Outcome) (start before after : Option (List Happening)) (made writes writes' : ℕ) (old new : Cored) → HeardSoFar start before made old →
+    GaveLine before after (λ line. ServesLine line old new) → IfSome r (λ o. IsWriteFault o writes writes') → HearsOn r start after (made + 1) new
+heard-served None start before after made writes writes' old new k g f = heard-line start before after made old new k g
+heard-served (Some Outcome.WriteFault) start before after made writes writes' old new k g f =
+    let n = heard-line start before after made old new k g in record { events = n.events; gained = n.gained; polled = inl n.polled; inputs = n.inputs }
+heard-served (Some Outcome.Finished) start before after made writes writes' old new k g f = absurd f
+heard-served (Some Outcome.ReadFault) start before after made writes writes' old new k g f = absurd f
+heard-served (Some Outcome.Budget) start before after made writes writes' old new k g f = absurd f
+heard-served (Some (Outcome.JournalFull full)) start before after made writes writes' old new k g f = absurd f
+heard-served (Some Outcome.Usage) start before after made writes writes' old new k g f = absurd f
+heard-served (Some Outcome.NoMemory) start before after made writes writes' old new k g f = absurd f
+heard-served (Some (Outcome.Unlawful index rule)) start before after made writes writes' old new k g f = absurd f
+heard-served (Some (Outcome.BadEntry line)) start before after made writes writes' old new k g f = absurd f
+
+-- a line found no room
+pub heard-full : (start before after : Option (List Happening)) (made : ℕ) (full : Full) (old new : Cored) → HeardSoFar start before made old → GaveLine before after (λ line. LacksRoom line old new full) →
+    Heard (Outcome.JournalFull full) start after (made + 1) new
+heard-full start before after made full old new k g = record {
+  events = k.events ++ g.line ∷ [];
+  gained = gains-gains start before after k.events (g.line ∷ []) k.gained g.gained;
+  polled = let n = length-append k.events (g.line ∷ []) in let m = k.polled in omega (arith, n, m);
+  inputs = subst (λ (lines : List Happening). NewestFindsNoRoom lines new full) (sym (newest-line k.events g.line g.is_line_given)) (lacks-room g.line (newest_lines k.events) full old new k.inputs k.last g.does);
+}
+
+-- the source is at its end
+pub heard-end : (o : Outcome) (start before after : Option (List Happening)) (made writes writes' : ℕ) (old new : Cored) → HeardSoFar start before made old → new ≡ old → Gains before after [] →
+    EndsWriting o writes writes' → Heard o start after (made + 1) new
+heard-end o start before after made writes writes' old new k e g f = subst (λ (v : Cored). Heard o start after (made + 1) v) (sym e) (go o f)
+  where
+    events : List Happening
+    events = k.events ++ []
+
+    gained : Gains start after events
+    gained = gains-gains start before after k.events [] k.gained g
+
+    polled : length events + 1 ≡ made + 1
+    polled = let n : length events ≡ length k.events = ap length (append-nil k.events) in let m = k.polled in omega (arith, n, m)
+
+    lines : AreLines old.history (newest_lines events)
+    lines = subst (λ (es : List Happening). AreLines old.history (newest_lines es)) (sym (append-nil k.events)) k.inputs
+
+    go : (o : Outcome) → EndsWriting o writes writes' → Heard o start after (made + 1) old
+    go Outcome.Finished f = record { events = events; gained = gained; polled = polled; inputs = lines }
+    go Outcome.WriteFault f = record { events = events; gained = gained; polled = inr polled; inputs = lines }
+    go Outcome.ReadFault f = absurd f
+    go Outcome.Budget f = absurd f
+    go (Outcome.JournalFull full) f = absurd f
+    go Outcome.Usage f = absurd f
+    go Outcome.NoMemory f = absurd f
+    go (Outcome.Unlawful index rule) f = absurd f
+    go (Outcome.BadEntry line) f = absurd f
+
+-- a read failed
+pub heard-fault : (start before after : Option (List Happening)) (made : ℕ) (old new : Cored) → HeardSoFar start before made old → new ≡ old → Gains before after [] → Heard Outcome.ReadFault start after (made + 1) new
+heard-fault start before after made old new k e g = subst (λ (v : Cored). Heard Outcome.ReadFault start after (made + 1) v) (sym e) (record {
+  events = k.events ++ [];
+  gained = gains-gains start before after k.events [] k.gained g;
+  polled = let n : length (k.events ++ []) ≡ length k.events = ap length (append-nil k.events) in let m = k.polled in omega (arith, n, m);
+  inputs = subst (λ (es : List Happening). AreLines old.history (newest_lines es)) (sym (append-nil k.events)) k.inputs;
+})
+
+-- the allowed polls were made
+pub heard-budget : (start after : Option (List Happening)) (made : ℕ) (v : Cored) → HeardSoFar start after made v → Heard Outcome.Budget start after made v
+heard-budget start after made v k = record { events = k.events; gained = k.gained; polled = k.polled; inputs = k.inputs }
+
+-- what was heard is heard of the journal that is handed back
+pub heard-cored : (o : Outcome) (before after : Option (List Happening)) (polls : ℕ) (v : Cored) (j : Journaled) → j.history ≡ v.history → j.limit ≡ v.limit → Heard o before after polls v → Heard o before after polls (cored j)
+heard-cored o before after polls v j e l k = record { events = k.events; gained = k.gained; polled = k.polled; inputs = go o (newest_lines k.events) k.inputs }
+  where
+    lines : (xs : List Happening) → AreLines v.history xs → AreLines j.history xs
+    lines xs a = subst (λ (h : History). AreLines h xs) (sym e) a
+
+    full-is : (n : ℕ) (full : Full) → IsFull v n full → IsFull (cored j) n full
+    full-is n full f = moved j.history j.limit e l
+      where
+        moved : (h : History) (limit : ℕ) → h ≡ v.history → limit ≡ v.limit → IsFull (record { history = h; last = last_moment h; limit = limit }) n full
+        moved h limit e l = record {
+          says = f.says ∙ ap₂ (λ (x : History) (k : ℕ). record { entries = length x; owed = owed x; need = n; limit = k }) (sym e) (sym l);
+          above = subst (λ (x : History). limit < length x + owed x + n) (sym e) (subst (λ k. k < length v.history + owed v.history + n) (sym l) f.above);
+        }
+
+    room : (line : Happening) (xs : List Happening) (full : Full) → FindsNoRoom line xs v full → FindsNoRoom line xs (cored j) full
+    room line xs full f = record {
+      entry = f.entry;
+      gives = subst (λ (h : History). Gives line h (last_come h) (line_number (length xs)) f.entry) (sym e) f.gives;
+      is_full = full-is (need_of f.entry.event) full f.is_full;
+    }
+
+    newest : (xs : List Happening) (full : Full) → NewestFindsNoRoom xs v full → NewestFindsNoRoom xs (cored j) full
+    newest [] full f = f
+    newest (line ∷ xs) full f = (lines xs f.0, room line xs full f.1)
+
+    go : (o : Outcome) (xs : List Happening) → HasInputs o xs v → HasInputs o xs (cored j)
+    go (Outcome.JournalFull full) xs i = newest xs full i
+    go Outcome.Finished xs i = lines xs i
+    go Outcome.WriteFault xs i = lines xs i
+    go Outcome.ReadFault xs i = lines xs i
+    go Outcome.Budget xs i = lines xs i
+    go Outcome.Usage xs i = lines xs i
+    go Outcome.NoMemory xs i = lines xs i
+    go (Outcome.Unlawful index rule) xs i = lines xs i
+    go (Outcome.BadEntry line) xs i = lines xs i
