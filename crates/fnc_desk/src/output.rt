@@ -13,20 +13,8 @@ ghost use Rattle.fnc_desk.specs.Searched as Searched;
 
 use crate::printing::{Piece, print_pieces};
 use crate::tally::{alive, counted};
-use fnc_journal::{Answer, Event, Journal, Kind, Reg, Req};
+use fnc_journal::{Answer, Event, Journal, Reg, Req};
 use fnc_outside::{Sink, SinkFailed};
-
-fn kind_word(kind: Kind) -> &'static str
-    ensures { result.now ≡ Line.kind_word kind }
-{
-    match kind {
-        Kind::On => "on",
-        Kind::Off => "off",
-        Kind::Reboot => "reboot",
-        Kind::List => "list",
-        Kind::Status => "status",
-    }
-}
 
 /// The name of a registration, nothing where there is no such registration.
 fn name_of(journal: &Journal, reg: Reg) -> &str
@@ -94,7 +82,7 @@ fn print_event<K: Sink>(journal: &Journal, event: &Event, sink: &mut K) -> Resul
                 Piece::Word(" "),
                 Piece::Name(name_of(journal, *reg)),
                 Piece::Word(" "),
-                Piece::Word(kind_word(*kind)),
+                Piece::Word(kind.word()),
                 Piece::Word(" "),
                 Piece::Name(target_of(journal, *req)),
                 Piece::Word(" try "),

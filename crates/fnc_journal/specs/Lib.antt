@@ -4,6 +4,7 @@ pub mod Same
 pub mod Exits
 pub mod Found
 pub mod Device
+pub mod Bounds
 pub mod Registered
 pub mod Levels
 pub mod Kept

@@ -1,6 +1,7 @@
 // What stands in a journal.
 
 ghost use Rattle.std.specs.Prelude.{◌≡◌};
+ghost use Rattle.fnc_journal.specs.Line as Line;
 ghost use Rattle.fnc_journal.specs.Same as Same;
 
 use crate::cause::Cause;
@@ -45,6 +46,21 @@ pub struct Slot {
     pub phase: Phase,
     pub level: u8,
     pub place: u8,
+}
+
+impl Kind {
+    /// The word for it, in what is read and in what is printed.
+    pub fn word(self) -> &'static str
+        ensures { result.now ≡ Line.kind_word self }
+    {
+        match self {
+            Kind::On => "on",
+            Kind::Off => "off",
+            Kind::Reboot => "reboot",
+            Kind::List => "list",
+            Kind::Status => "status",
+        }
+    }
 }
 
 impl Phase {
