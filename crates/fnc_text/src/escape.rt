@@ -66,7 +66,7 @@ fn text_of(bytes: Vec<u8>) -> Result<Text, EscapeFault>
 }
 
 /// The place of the first `%` that two hexadecimal digits do not follow.
-fn malformed(word: &[u8]) -> Option<usize>
+pub fn malformed(word: &[u8]) -> Option<usize>
     ensures { result ≡ malformed_from 0 word.now }
 {
     for (place, byte) in word.iter().enumerate() {

@@ -9,7 +9,7 @@ mod number;
 mod word;
 
 pub use duration::{DurationFault, read_duration};
-pub use escape::{EscapeFault, unescape, unescape_bytes};
+pub use escape::{EscapeFault, malformed, unescape, unescape_bytes};
 pub use name::is_name;
 pub use number::read_number;
 pub use word::{Span, next_word};

@@ -1,0 +1,4 @@
+pub mod Answers
+pub mod Cuts
+pub mod Fields
+pub mod Commands

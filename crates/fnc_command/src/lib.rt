@@ -1,0 +1,11 @@
+// The line language: what a line of input says, or the first cause why it says nothing. `specs/` has
+// the language: words, what each word may be, and the words of each verb.
+#![tactic(auto)]
+
+mod command;
+mod field;
+mod spelling;
+mod verb;
+mod word;
+
+pub use command::{Command, ExitRead, Mode, Read};
