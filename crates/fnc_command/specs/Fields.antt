@@ -1,5 +1,5 @@
 -- What one word says.
-use Rattle.std.specs.Prelude.{ℕ, List, [], ◌∷◌, ◌==◌, ◌||◌, ◌^◌, not, ◌&&◌, Bool, if◌then◌else◌, nat_le, length, codes, bytes_eq, Option, Some, None, Result, Ok, Err}
+use Rattle.std.specs.Prelude.{ℕ, List, [], ◌∷◌, ◌==◌, ◌||◌, ◌^◌, not, ◌&&◌, Bool, if◌then◌else◌, nat_le, length, codes, bytes_eq, ok_or, Option, Some, None, Result, Ok, Err}
 use Rattle.std.specs.List.{list_any}
 use Rattle.std.specs.Str.{is_utf8}
 use Rattle.fnc_journal.specs.declared.cause.Cause.{Cause}
@@ -19,11 +19,6 @@ well_spelled (Err fault) = Err Cause.BadEscape
 -- the bytes that a word spells
 abbrev pub bytes_of : List ℕ → Result (List ℕ) Cause
 bytes_of word = well_spelled (unescaped word)
-
--- a value that has to be there, else this is the cause
-abbrev pub or_cause : {X : Type 0} → Cause → Option X → Result X Cause
-or_cause cause (Some x) = Ok x
-or_cause cause None = Err cause
 
 -- a value that has to pass a test, else this is the cause
 abbrev pub passing : {X : Type 0} → Cause → Bool → X → Result X Cause
@@ -51,7 +46,7 @@ agent_of word = and_then (text_of word) (λ t. passing Cause.BadName (is_agent_n
 
 -- the number up to a limit that a word spells
 abbrev pub number_of : ℕ → List ℕ → Result ℕ Cause
-number_of most word = and_then (bytes_of word) (λ bytes. or_cause Cause.BadNumber (number most bytes))
+number_of most word = and_then (bytes_of word) (λ bytes. ok_or (number most bytes) Cause.BadNumber)
 
 -- the action that can be asked for
 abbrev pub action : List ℕ → Option Kind
@@ -63,7 +58,7 @@ action bytes =
 
 -- the action that a word spells
 abbrev pub action_of : List ℕ → Result Kind Cause
-action_of word = and_then (bytes_of word) (λ bytes. or_cause Cause.BadAction (action bytes))
+action_of word = and_then (bytes_of word) (λ bytes. ok_or (action bytes) Cause.BadAction)
 
 -- the exits without a status
 abbrev pub named_exit : List ℕ → Option Exit
@@ -86,4 +81,4 @@ exit bytes = or_coded (named_exit bytes) (number 255 bytes)
 
 -- the exit that a word spells
 abbrev pub exit_of : List ℕ → Result Exit Cause
-exit_of word = and_then (bytes_of word) (λ bytes. or_cause Cause.BadExit (exit bytes))
+exit_of word = and_then (bytes_of word) (λ bytes. ok_or (exit bytes) Cause.BadExit)

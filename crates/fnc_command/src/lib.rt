@@ -2,8 +2,11 @@
 // the language: words, what each word may be, and the words of each verb.
 #![tactic(auto)]
 
+mod ask;
 mod command;
 mod field;
+mod level;
+mod option_word;
 mod spelling;
 mod verb;
 mod word;
