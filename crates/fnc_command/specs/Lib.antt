@@ -5,3 +5,5 @@ pub mod Commands
 pub mod Levels
 pub mod Options
 pub mod Asks
+pub mod Lines
+pub mod Heads

@@ -4,11 +4,15 @@
 
 mod ask;
 mod command;
+mod device;
 mod field;
+mod head;
 mod level;
 mod option_word;
+mod read;
 mod spelling;
 mod verb;
 mod word;
 
 pub use command::{Command, ExitRead, Mode, Read};
+pub use read::{read_command, read_exit};

@@ -91,7 +91,7 @@ pub fn read_ended(line: &[u8], out: &mut LineBuf) -> Result<(Run, Exit), Cause>
 }
 
 /// `exit RUN EXIT [OUTPUT]`
-pub fn read_exit(alloc: Global, line: &[u8], out: &mut LineBuf) -> Result<Command, Cause>
+pub fn read_exit_words(alloc: Global, line: &[u8], out: &mut LineBuf) -> Result<Command, Cause>
     requires { length line.now ≤ out.old.size }
     ensures read { Tells result (said_exit (words line.now)) }
     ensures size { out.new.size ≡ out.old.size }
