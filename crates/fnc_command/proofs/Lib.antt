@@ -1,2 +1,5 @@
 pub mod Spellings
 pub mod PairsSoFar
+pub mod Readings
+pub mod Bounds
+pub mod Propriety

@@ -8,22 +8,31 @@ use Rattle.fnc_command.specs.Cuts.{none, one, two}
 use Rattle.fnc_command.specs.Fields.{name_of, agent_of, bytes_of, number_of, exit_of}
 
 -- `remove NAME`
+abbrev pub remove_of : List ℕ → Result Command Cause
+remove_of word = and_then (name_of word) (λ name. Ok (Command.Remove name))
+
 abbrev pub said_remove : List (List ℕ) → Result Command Cause
-said_remove ws = and_then (one ws) (λ w. and_then (name_of w) (λ name. Ok (Command.Remove name)))
+said_remove ws = and_then (one ws) remove_of
 
 -- `pass`
 abbrev pub said_pass : List (List ℕ) → Result Command Cause
 said_pass ws = and_then (none ws) (λ nothing. Ok Command.Pass)
 
 -- `confirm CLIENT TARGET`
+abbrev pub confirm_of : List ℕ × List ℕ → Result Command Cause
+confirm_of w =
+    and_then (name_of w.0) (λ client. and_then (name_of w.1) (λ target. Ok (Command.Confirm client target)))
+
 abbrev pub said_confirm : List (List ℕ) → Result Command Cause
-said_confirm ws =
-    and_then (two ws) (λ w. and_then (name_of w.0) (λ client. and_then (name_of w.1) (λ target. Ok (Command.Confirm client target))))
+said_confirm ws = and_then (two ws) confirm_of
 
 -- `agent NAME JSON`
+abbrev pub agent_line : List ℕ × List ℕ → Result Command Cause
+agent_line w =
+    and_then (agent_of w.0) (λ name. and_then (bytes_of w.1) (λ json. Ok (Command.Agent name json)))
+
 abbrev pub said_agent : List (List ℕ) → Result Command Cause
-said_agent ws =
-    and_then (two ws) (λ w. and_then (agent_of w.0) (λ name. and_then (bytes_of w.1) (λ json. Ok (Command.Agent name json))))
+said_agent ws = and_then (two ws) agent_line
 
 -- the words after `exit`: two, and then the output, of which the word may be missing
 abbrev pub exit_words : List (List ℕ) → Result (List ℕ × List ℕ × List ℕ) Cause
@@ -38,11 +47,15 @@ pub record Ended : Type 0 where
   pub exit : Exit
   pub output : List ℕ
 
+-- what three such words say
+abbrev pub ended_of : List ℕ × List ℕ × List ℕ → Result Ended Cause
+ended_of w =
+    and_then (number_of 4294967295 w.0) (λ run. and_then (exit_of w.1) (λ exit. and_then (bytes_of w.2) (λ output.
+    Ok (record { run = run; exit = exit; output = output }))))
+
 -- what the words after `exit` say
 abbrev pub ended : List (List ℕ) → Result Ended Cause
-ended ws =
-    and_then (exit_words ws) (λ w. and_then (number_of 4294967295 w.0) (λ run. and_then (exit_of w.1) (λ exit. and_then (bytes_of w.2) (λ output.
-    Ok (record { run = run; exit = exit; output = output })))))
+ended ws = and_then (exit_words ws) ended_of
 
 -- `exit RUN EXIT [OUTPUT]`
 abbrev pub said_exit : List (List ℕ) → Result Command Cause

@@ -41,13 +41,18 @@ abbrev pub devices_of : List ℕ → Result (List (List ℕ)) Cause
 devices_of word = and_then (text_of word) (λ t. all_names (comma_parts t))
 
 -- `level INDEX TARGET DEVICES`
+abbrev pub level_of : List ℕ × List ℕ × List ℕ → Result Command Cause
+level_of w =
+    and_then (number_of 18446744073709551615 w.0) (λ index. and_then (target_of w.1) (λ target. and_then (devices_of w.2) (λ devices.
+    Ok (Command.Level target index devices))))
+
 abbrev pub said_level : List (List ℕ) → Result Command Cause
-said_level ws =
-    and_then (three ws) (λ w. and_then (number_of 18446744073709551615 w.0) (λ index. and_then (target_of w.1) (λ target. and_then (devices_of w.2) (λ devices.
-    Ok (Command.Level target index devices)))))
+said_level ws = and_then (three ws) level_of
 
 -- `unlevel INDEX TARGET`
+abbrev pub unlevel_of : List ℕ × List ℕ → Result Command Cause
+unlevel_of w =
+    and_then (number_of 18446744073709551615 w.0) (λ index. and_then (target_of w.1) (λ target. Ok (Command.Unlevel target index)))
+
 abbrev pub said_unlevel : List (List ℕ) → Result Command Cause
-said_unlevel ws =
-    and_then (two ws) (λ w. and_then (number_of 18446744073709551615 w.0) (λ index. and_then (target_of w.1) (λ target.
-    Ok (Command.Unlevel target index))))
+said_unlevel ws = and_then (two ws) unlevel_of

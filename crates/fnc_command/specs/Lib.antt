@@ -7,3 +7,4 @@ pub mod Options
 pub mod Asks
 pub mod Lines
 pub mod Heads
+pub mod Proper
