@@ -3,3 +3,4 @@ pub mod PairsSoFar
 pub mod Readings
 pub mod Bounds
 pub mod Propriety
+pub mod ProperLines

@@ -5,6 +5,7 @@ use Rattle.fnc_journal.specs.declared.entry.Kind.{Kind}
 use Rattle.fnc_journal.specs.declared.entry.LevelTarget.{LevelTarget}
 use Rattle.fnc_text.specs.Names.{is_name}
 use Rattle.fnc_command.specs.declared.command.Command.{Command}
+use Rattle.fnc_command.specs.declared.command.ExitRead.{ExitRead}
 use Rattle.fnc_command.specs.declared.command.Mode.{Mode}
 use Rattle.fnc_command.specs.declared.command.Read.{Read}
 use Rattle.fnc_command.specs.Fields.{is_agent_name}
@@ -55,3 +56,7 @@ IsProperCommand mode (Command.Confirm client target) = IsTrue (is_name client) �
 -- what holds of a line that is read
 abbrev pub IsProper : Mode → Read → Type 0
 IsProper mode read = IsProperMoment mode read.moment × IsProperCommand mode read.command
+
+-- what holds of an exit that is read
+abbrev pub IsProperExit : ExitRead → Type 0
+IsProperExit exit = (exit.moment ≤ 1000000000000000) × (exit.run.0 < 2 ^ 32)

@@ -1,11 +1,12 @@
 // What a whole line says.
 
-ghost use Rattle.std.specs.Prelude.{◌≡◌, ◌⊎◌, ◌≤◌, [], length, IfOk, IfErr, IfNone, MatchOption, MatchResult, Ok, Err, Some, None};
+ghost use Rattle.std.specs.Prelude.{◌≡◌, ◌⊎◌, ◌≤◌, [], length, IfOk, IfErr, IfNone, IfSome, MatchOption, MatchResult, Ok, Err, Some, None};
 ghost use Rattle.std.specs.Str.{is_utf8};
 ghost use Rattle.fnc_text.specs.Words.{words};
 ghost use Rattle.fnc_command.specs.Answers.{Tells};
 ghost use Rattle.fnc_command.specs.Lines.{command, readable, said, exit_said};
 ghost use Rattle.fnc_command.specs.Heads.{after_head};
+ghost use Rattle.fnc_command.specs.Proper.{IsProper, IsProperExit};
 
 use crate::ask::read_ask;
 use crate::command::{Command, ExitRead, Mode, Read};
@@ -26,6 +27,13 @@ const LONGEST_LINE: usize = 8_192;
 pub fn read_command(alloc: Global, line: &[u8], mode: Mode) -> Result<Read, Cause>
     ensures ok { IfOk result (λ read. said mode line.now ≡ Ok read) }
     ensures err { IfErr result (λ cause. (cause ≡ Cause.NoMemory) ⊎ (said mode line.now ≡ Err cause)) }
+    ensures proper { IfOk result (λ read. IsProper mode read) }
+{
+    read_line(alloc, line, mode)
+}
+
+fn read_line(alloc: Global, line: &[u8], mode: Mode) -> Result<Read, Cause>
+    ensures { Tells result (said mode line.now) }
 {
     check_readable(line)?;
     let mut out = buffer(alloc, line)?;
@@ -100,6 +108,7 @@ pub fn read_exit(line: &[u8], out: &mut LineBuf) -> Option<ExitRead>
     requires { length line.now ≤ out.old.size }
     ensures read { MatchOption result (exit_said (said Mode.Timed line.now) ≡ None) (λ exit. exit_said (said Mode.Timed line.now) ≡ Some (exit, out.new.bytes)) }
     ensures empty { IfNone result (out.new.bytes ≡ []) }
+    ensures proper { IfSome result IsProperExit }
     ensures size { out.new.size ≡ out.old.size }
 {
     match exit_line(line, out) {
