@@ -19,7 +19,7 @@ pub record Asking : Type 0 where
   pub target : List ℕ
   pub options : List (List ℕ)
 
--- the words after `ask`
+-- cut so, where they are enough and not too many
 abbrev pub asking : List (List ℕ) → Result Asking Cause
 asking (client ∷ action ∷ target ∷ options) =
     passing Cause.ExtraWord (nat_le (length options) 2) (record { client = client; action = action; target = target; options = options })
@@ -63,11 +63,12 @@ with_words mode before (word ∷ ws) =
 abbrev pub no_options : AskOptions
 no_options = record { total = None; coin = None }
 
--- `ask CLIENT ACTION TARGET [total=DURATION] [coin=NUMBER]`, in mode Live without the coin. A total is 600 s where none is said
+-- the words of `ask`. A total is 600 s where none is said
 abbrev pub ask_of : Mode → Asking → Result Command Cause
 ask_of mode a =
     and_then (name_of a.client) (λ client. and_then (action_of a.action) (λ kind. and_then (name_of a.target) (λ target. and_then (with_words mode no_options a.options) (λ o.
     Ok (Command.Ask client kind target (unwrap_or o.total 600000) o.coin)))))
 
+-- `ask CLIENT ACTION TARGET [total=DURATION] [coin=NUMBER]`, in mode Live without the coin
 abbrev pub said_ask : Mode → List (List ℕ) → Result Command Cause
 said_ask mode ws = and_then (asking ws) (ask_of mode)

@@ -7,10 +7,11 @@ use Rattle.fnc_command.specs.Answers.{and_then}
 use Rattle.fnc_command.specs.Cuts.{none, one, two}
 use Rattle.fnc_command.specs.Fields.{name_of, agent_of, bytes_of, number_of, exit_of}
 
--- `remove NAME`
+-- the word of `remove`
 abbrev pub remove_of : List ℕ → Result Command Cause
 remove_of word = and_then (name_of word) (λ name. Ok (Command.Remove name))
 
+-- `remove NAME`
 abbrev pub said_remove : List (List ℕ) → Result Command Cause
 said_remove ws = and_then (one ws) remove_of
 
@@ -18,19 +19,21 @@ said_remove ws = and_then (one ws) remove_of
 abbrev pub said_pass : List (List ℕ) → Result Command Cause
 said_pass ws = and_then (none ws) (λ nothing. Ok Command.Pass)
 
--- `confirm CLIENT TARGET`
+-- the words of `confirm`
 abbrev pub confirm_of : List ℕ × List ℕ → Result Command Cause
 confirm_of w =
     and_then (name_of w.0) (λ client. and_then (name_of w.1) (λ target. Ok (Command.Confirm client target)))
 
+-- `confirm CLIENT TARGET`
 abbrev pub said_confirm : List (List ℕ) → Result Command Cause
 said_confirm ws = and_then (two ws) confirm_of
 
--- `agent NAME JSON`
+-- the words of `agent`: the description is bytes, which need not be a text here
 abbrev pub agent_line : List ℕ × List ℕ → Result Command Cause
 agent_line w =
     and_then (agent_of w.0) (λ name. and_then (bytes_of w.1) (λ json. Ok (Command.Agent name json)))
 
+-- `agent NAME JSON`
 abbrev pub said_agent : List (List ℕ) → Result Command Cause
 said_agent ws = and_then (two ws) agent_line
 

@@ -40,19 +40,21 @@ all_names parts = passing Cause.BadName (list_all is_name parts) parts
 abbrev pub devices_of : List ℕ → Result (List (List ℕ)) Cause
 devices_of word = and_then (text_of word) (λ t. all_names (comma_parts t))
 
--- `level INDEX TARGET DEVICES`
+-- the words of `level`
 abbrev pub level_of : List ℕ × List ℕ × List ℕ → Result Command Cause
 level_of w =
     and_then (number_of 18446744073709551615 w.0) (λ index. and_then (target_of w.1) (λ target. and_then (devices_of w.2) (λ devices.
     Ok (Command.Level target index devices))))
 
+-- `level INDEX TARGET DEVICES`
 abbrev pub said_level : List (List ℕ) → Result Command Cause
 said_level ws = and_then (three ws) level_of
 
--- `unlevel INDEX TARGET`
+-- the words of `unlevel`
 abbrev pub unlevel_of : List ℕ × List ℕ → Result Command Cause
 unlevel_of w =
     and_then (number_of 18446744073709551615 w.0) (λ index. and_then (target_of w.1) (λ target. Ok (Command.Unlevel target index)))
 
+-- `unlevel INDEX TARGET`
 abbrev pub said_unlevel : List (List ℕ) → Result Command Cause
 said_unlevel ws = and_then (two ws) unlevel_of

@@ -19,7 +19,9 @@ pub enum Command {
         options: Pairs,
     },
     /// A device is taken back.
-    Remove { name: Text },
+    Remove {
+        name: Text,
+    },
     /// A level is set.
     Level {
         target: LevelTarget,
@@ -27,9 +29,15 @@ pub enum Command {
         devices: Names,
     },
     /// A level is taken away.
-    Unlevel { target: LevelTarget, index: u64 },
+    Unlevel {
+        target: LevelTarget,
+        index: u64,
+    },
     /// An agent is described by a text in JSON.
-    Agent { name: Text, json: Bytes },
+    Agent {
+        name: Text,
+        json: Bytes,
+    },
     /// A client asks for an action. The total is in milliseconds.
     Ask {
         client: Text,
@@ -39,11 +47,18 @@ pub enum Command {
         coin: Option<u64>,
     },
     /// A run has ended.
-    Exit { run: Run, exit: Exit, output: Bytes },
+    Exit {
+        run: Run,
+        exit: Exit,
+        output: Bytes,
+    },
     /// Time has passed.
     Pass,
     /// A client has seen that a target is down.
-    Confirm { client: Text, target: Text },
+    Confirm {
+        client: Text,
+        target: Text,
+    },
 }
 
 /// A line that says something. The moment, in milliseconds, is there in mode Timed.

@@ -1,6 +1,6 @@
 // What a whole line says.
 
-ghost use Rattle.std.specs.Prelude.{◌≡◌, ◌⊎◌, ◌≤◌, [], length, IfOk, IfErr, IfNone, IfSome, MatchOption, MatchResult, Ok, Err, Some, None};
+ghost use Rattle.std.specs.Prelude.{◌≡◌, ◌⊎◌, ◌<◌, ◌≤◌, [], length, IfOk, IfErr, IfNone, IfSome, MatchOption, MatchResult, Ok, Err, Some, None};
 ghost use Rattle.std.specs.Str.{is_utf8};
 ghost use Rattle.fnc_text.specs.Words.{words};
 ghost use Rattle.fnc_command.specs.Answers.{Tells};
@@ -27,13 +27,15 @@ const LONGEST_LINE: usize = 8_192;
 pub fn read_command(alloc: Global, line: &[u8], mode: Mode) -> Result<Read, Cause>
     ensures ok { IfOk result (λ read. said mode line.now ≡ Ok read) }
     ensures err { IfErr result (λ cause. (cause ≡ Cause.NoMemory) ⊎ (said mode line.now ≡ Err cause)) }
+    ensures long { 8192 < length line.now → result ≡ Err Cause.TooLong }
     ensures proper { IfOk result (λ read. IsProper mode read) }
 {
     read_line(alloc, line, mode)
 }
 
 fn read_line(alloc: Global, line: &[u8], mode: Mode) -> Result<Read, Cause>
-    ensures { Tells result (said mode line.now) }
+    ensures told { Tells result (said mode line.now) }
+    ensures long { 8192 < length line.now → result ≡ Err Cause.TooLong }
 {
     check_readable(line)?;
     let mut out = buffer(alloc, line)?;
