@@ -1,7 +1,7 @@
 -- What holds of each word that is read.
-use Rattle.std.proofs.Common.{◌≡◌, ℕ, ◌+◌, ◌*◌, ◌≤◌, ◌<◌, ◌^◌, List, [], ◌∷◌, Bool, true, false, cond, ◌&&◌, eqb, Option, Some, None, Result, Ok, Err, IfOk, IfSome, IsTrue, refl, arith, length, drop}
-use Rattle.std.specs.Prelude.{ok_or, bytes_eq, codes, nat_le, is_none, take_while}
-use Rattle.std.specs.List.{list_all, prefix_len}
+use Rattle.std.proofs.Common.{◌≡◌, ℕ, ◌*◌, ◌≤◌, List, [], ◌∷◌, Bool, true, false, cond, Option, Some, None, Result, Ok, Err, IfOk, IfSome, IsTrue, refl, arith, drop}
+use Rattle.std.specs.Prelude.{ok_or, bytes_eq, codes, nat_le, take_while}
+use Rattle.std.specs.List.{list_all}
 use Rattle.std.specs.Char.{is_ascii_digit}
 use Rattle.std.proofs.lemmas.Bool.Decides.{nat_tests}
 use Rattle.fnc_journal.specs.declared.cause.Cause.{Cause}

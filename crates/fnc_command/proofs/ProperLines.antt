@@ -1,5 +1,5 @@
 -- Every line that is read is proper.
-use Rattle.std.proofs.Common.{◌≡◌, ℕ, ◌≤◌, ◌<◌, ◌^◌, List, [], ◌∷◌, Bool, true, false, cond, Option, Some, None, Result, Ok, Err, IfOk, IfSome, sym, subst, arith}
+use Rattle.std.proofs.Common.{◌≡◌, ℕ, ◌≤◌, List, [], ◌∷◌, Bool, true, false, cond, Option, Some, None, Result, Ok, Err, IfOk, IfSome, subst}
 use Rattle.std.specs.Prelude.{ok_or, bytes_eq, codes}
 use Rattle.std.specs.Option.{option_or}
 use Rattle.fnc_journal.specs.declared.cause.Cause.{Cause}

@@ -1,32 +1,24 @@
 -- Every line that is read is proper, and its command is one of its verb.
-use Rattle.std.proofs.Common.{◌≡◌, ℕ, ◌+◌, ◌≤◌, ◌<◌, ◌^◌, List, [], ◌∷◌, Bool, true, false, cond, Option, Some, None, Result, Ok, Err, IfOk, IfSome, IsTrue, refl, sym, arith, subst, lit≤}
-use Rattle.std.specs.Prelude.{ok_or, bytes_eq, codes, is_none, is_some, unwrap_or, nat_lt, length}
+use Rattle.std.proofs.Common.{◌≡◌, ℕ, ◌≤◌, List, [], ◌∷◌, Bool, true, false, cond, Option, Some, None, Result, Ok, Err, IfOk, IfSome, IsTrue, refl, sym, arith, subst, lit≤}
+use Rattle.std.specs.Prelude.{ok_or, bytes_eq, codes, is_none, unwrap_or}
 use Rattle.std.specs.List.{list_all}
-use Rattle.std.specs.Str.{is_utf8}
 use Rattle.fnc_journal.specs.declared.cause.Cause.{Cause}
-use Rattle.fnc_journal.specs.declared.entry.Exit.{Exit}
-use Rattle.fnc_journal.specs.declared.entry.Kind.{Kind}
-use Rattle.fnc_journal.specs.declared.entry.LevelTarget.{LevelTarget}
-use Rattle.fnc_journal.specs.declared.names.Pair.{Pair}
 use Rattle.fnc_text.specs.Digits.{number}
 use Rattle.fnc_text.specs.Durations.{duration}
 use Rattle.fnc_text.specs.Names.{is_name}
-use Rattle.fnc_text.specs.Words.{words}
 use Rattle.fnc_command.specs.declared.ask.AskOptions.{AskOptions}
 use Rattle.fnc_command.specs.declared.ask.OptionName.{OptionName}
 use Rattle.fnc_command.specs.declared.command.Command.{Command}
-use Rattle.fnc_command.specs.declared.command.ExitRead.{ExitRead}
 use Rattle.fnc_command.specs.declared.command.Mode.{Mode}
-use Rattle.fnc_command.specs.declared.command.Read.{Read}
 use Rattle.fnc_command.specs.declared.head.Verb.{Verb}
 use Rattle.fnc_command.specs.Answers.{and_then}
 use Rattle.fnc_command.specs.Cuts.{none, one, two, three}
-use Rattle.fnc_command.specs.Fields.{passing, bytes_of, text_of, name_of, agent_of, is_agent_name, number_of, action_of, exit_of}
-use Rattle.fnc_command.specs.Levels.{target_of, devices_of, level_of, unlevel_of, said_level, said_unlevel}
+use Rattle.fnc_command.specs.Fields.{passing, bytes_of, name_of, agent_of, is_agent_name, number_of, action_of, exit_of}
+use Rattle.fnc_command.specs.Levels.{target_of, devices_of, level_of, unlevel_of}
 use Rattle.fnc_command.specs.Options.{cut_option, agent_word, option_words, optional_agent, pairs_of, said_device}
-use Rattle.fnc_command.specs.Asks.{Asking, asking, ask_of, coin_name, option_name, at_least_one, with_option, with_cut, with_words, no_options, said_ask}
-use Rattle.fnc_command.specs.Commands.{Ended, ended, ended_of, exit_words, remove_of, confirm_of, agent_line, said_remove, said_pass, said_confirm, said_agent, said_exit}
-use Rattle.fnc_command.specs.Lines.{Beginning, command, said_after, exit_at, exit_said}
+use Rattle.fnc_command.specs.Asks.{Asking, asking, ask_of, coin_name, option_name, at_least_one, with_option, with_cut, with_words, no_options}
+use Rattle.fnc_command.specs.Commands.{Ended, ended, ended_of, exit_words, remove_of, confirm_of, agent_line, said_exit}
+use Rattle.fnc_command.specs.Lines.{command, said_after, exit_at, exit_said}
 use Rattle.fnc_command.specs.Proper.{IsTimed, IsAskable, IsProperTarget, IsProperCoin, IsProperCommand}
 use Rattle.fnc_command.proofs.Readings.{each, any, of_one, of_two, of_three}
 use Rattle.fnc_command.proofs.Bounds.{IsTotal, name, agent, target, devices, number_within, kind, total, there, passed}

@@ -1,5 +1,5 @@
 -- Targets and devices of a level.
-use Rattle.std.specs.Prelude.{ℕ, List, [], ◌∷◌, Bool, false, ◌&&◌, ◌==◌, if◌then◌else◌, nat_le, length, drop, Result, Ok, Err}
+use Rattle.std.specs.Prelude.{ℕ, List, [], ◌∷◌, Bool, false, ◌&&◌, ◌==◌, if◌then◌else◌, nat_le, length, drop, Result, Ok}
 use Rattle.std.specs.List.{list_all, slice_split}
 use Rattle.fnc_journal.specs.declared.cause.Cause.{Cause}
 use Rattle.fnc_journal.specs.declared.entry.LevelTarget.{LevelTarget}

@@ -1,5 +1,5 @@
 -- What holds of every line that is read, whatever it says.
-use Rattle.std.specs.Prelude.{ℕ, List, ◌≤◌, ◌<◌, ◌^◌, IsTrue, IfSome, Option, Some, None}
+use Rattle.std.specs.Prelude.{ℕ, ◌≤◌, ◌<◌, ◌^◌, IsTrue, IfSome, Option, Some, None}
 use Rattle.std.specs.List.{list_all}
 use Rattle.fnc_journal.specs.declared.entry.Kind.{Kind}
 use Rattle.fnc_journal.specs.declared.entry.LevelTarget.{LevelTarget}

@@ -1,4 +1,4 @@
-use Rattle.std.proofs.Common.{◌≡◌, ◌≤◌, length, sym, ap, refl, arith}
+use Rattle.std.proofs.Common.{◌≤◌, length, sym, ap, refl, arith}
 use Rattle.fnc_text.specs.Escapes.{spelled}
 use Rattle.fnc_text.proofs.EscapeLemmas.{percent_decode-spelled}
 use Rattle.fnc_command.proofs.Spellings.{length-spelled}
