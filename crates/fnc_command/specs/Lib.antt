@@ -1,0 +1,10 @@
+pub mod Answers
+pub mod Cuts
+pub mod Fields
+pub mod Commands
+pub mod Levels
+pub mod Options
+pub mod Asks
+pub mod Lines
+pub mod Heads
+pub mod Proper
