@@ -1,8 +1,8 @@
 -- What the entries of a text are made of: its bytes that are no separators.
-use Rattle.std.proofs.Common.{◌≡◌, ℕ, zero, suc, ◌+◌, ◌<◌, ◌≤◌, Bool, true, false, cond, ◌&&◌, List, [], ◌∷◌, length, Result, Ok, Err, refl, ap, subst, arith}
+use Rattle.std.proofs.Common.{◌≡◌, ℕ, zero, suc, ◌+◌, ◌<◌, ◌≤◌, Bool, true, false, cond, ◌&&◌, ◌||◌, List, [], ◌∷◌, length, Result, Ok, Err, refl, sym, ◌∙◌, ap, subst, arith}
 use Rattle.std.specs.Prelude.{map, filter, not, nat_lt}
-use Rattle.std.specs.List.{list_all, AllByRecursion, slice_split, onto_first}
-use Rattle.std.proofs.lemmas.Bool.{and_parts, and_from, not_from_false, ltb-true}
+use Rattle.std.specs.List.{list_all, list_any, AllByRecursion, slice_split, onto_first}
+use Rattle.std.proofs.lemmas.Bool.{and_parts, and_from, not_from_false, ltb-true, lt-ltb, true≢false}
 use Rattle.fnc_hosts.specs.declared.hosts.HostFault.{HostFault}
 use Rattle.fnc_hosts.specs.Entries.{Entry, placed_from, entries_from}
 use Rattle.fnc_hosts.specs.Hosts.{before, together}
@@ -56,6 +56,36 @@ module _ (separator q : ℕ → Bool) where
 
   pub entries_are : (n : ℕ) (text : List ℕ) → length text ≤ n → list_all q text ≡ true → AllByRecursion (IsEntry n) (entries_from separator 0 text)
   entries_are n text short h = placed n 0 (slice_split separator text) (parts_of n text short h)
+
+-- a text with a letter has an entry, where letters are no separators
+module _ (separator letter : ℕ → Bool) (other : (b : ℕ) → letter b ≡ true → separator b ≡ false) where
+  abbrev has_byte : List (List ℕ) → Bool
+  has_byte parts = list_any (λ part. nat_lt 0 (length part)) parts
+
+  has_byte-onto : (b : ℕ) (parts : List (List ℕ)) → has_byte (onto_first b parts) ≡ true
+  has_byte-onto b [] = refl
+  has_byte-onto b (part ∷ parts) =
+      let some : nat_lt 0 (length (b ∷ part)) ≡ true = lt-ltb 0 (length (b ∷ part)) (omega arith) in rw some refl
+
+  has_byte-cut : (b : ℕ) (parts : List (List ℕ)) (rest is at : Bool) → letter b ≡ at → separator b ≡ is → (rest ≡ true → has_byte parts ≡ true) → (at || rest) ≡ true → has_byte (cond is ([] ∷ parts) (onto_first b parts)) ≡ true
+  has_byte-cut b parts rest false at l e more h = has_byte-onto b parts
+  has_byte-cut b parts rest true false l e more h = more h
+  has_byte-cut b parts rest true true l e more h = absurd (true≢false (sym e ∙ other b l))
+
+  part_has_byte : (text : List ℕ) → list_any letter text ≡ true → has_byte (slice_split separator text) ≡ true
+  part_has_byte [] h = absurd cc
+  part_has_byte (b ∷ bs) h =
+      has_byte-cut b (slice_split separator bs) (list_any letter bs) (separator b) (letter b) refl refl (part_has_byte bs) h
+
+  placed-some : (place : ℕ) (parts : List (List ℕ)) → has_byte parts ≡ true → 0 < length (filter (λ (e : Entry). nat_lt 0 (length e.text)) (placed_from place parts))
+  placed-some place [] h = absurd cc
+  placed-some place (part ∷ parts) h = kept-some (nat_lt 0 (length part)) h (placed-some (place + (length part + 1)) parts) where
+    kept-some : (some : Bool) → (some || has_byte parts) ≡ true → (has_byte parts ≡ true → 0 < length (filter (λ (e : Entry). nat_lt 0 (length e.text)) (placed_from (place + (length part + 1)) parts))) → 0 < length (cond some (record { place = place; text = part } ∷ filter (λ (e : Entry). nat_lt 0 (length e.text)) (placed_from (place + (length part + 1)) parts)) (filter (λ (e : Entry). nat_lt 0 (length e.text)) (placed_from (place + (length part + 1)) parts)))
+    kept-some true h more = omega arith
+    kept-some false h more = more h
+
+  pub entries-some : (text : List ℕ) → list_any letter text ≡ true → 0 < length (entries_from separator 0 text)
+  entries-some text h = placed-some 0 (slice_split separator text) (part_has_byte text h)
 
 before_ok : {X : Type 0} (x : X) (rest : Result (List X) HostFault) (ys : List X) → before x rest ≡ Ok ys → (xs : List X) × (rest ≡ Ok xs) × (x ∷ xs ≡ ys)
 before_ok x (Ok xs) ys h = (xs, refl, cc)

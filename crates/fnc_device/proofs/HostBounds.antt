@@ -1,7 +1,7 @@
 -- Hosts, ports and delays that were read are within their bounds.
 use Rattle.std.proofs.Common.{◌≡◌, ℕ, ◌+◌, ◌-◌, ◌<◌, ◌≤◌, Bool, true, false, eqb, ◌&&◌, List, [], ◌∷◌, length, take, drop, Result, Ok, refl, subst, arith}
 use Rattle.std.specs.Prelude.{map, not, nat_lt}
-use Rattle.std.specs.List.{list_all, position_or_len, before_first, after_first}
+use Rattle.std.specs.List.{list_all, list_any, position_or_len, before_first, after_first}
 use Rattle.std.proofs.lemmas.Bool.{and_parts, and_from, lt-ltb, ltb-false, le-leb}
 use Rattle.std.proofs.lemmas.Bool.Decides.{nat_tests}
 use Rattle.std.proofs.lemmas.List.{length-drop, length-take-le}
@@ -15,7 +15,7 @@ use Rattle.fnc_hosts.specs.Hosts.{each_entry, together, host, host_list, host_pa
 use Rattle.fnc_device.specs.Options.{is_value_byte}
 use Rattle.fnc_device.specs.Bounds.{is_entry_byte, is_host_byte, is_node_byte, is_text, is_host, is_host_pair}
 use Rattle.fnc_device.proofs.Inversion.{guard_ok, same_Ok, list_all-each}
-use Rattle.fnc_device.proofs.EntryBounds.{IsEntry, entries_are, together_are}
+use Rattle.fnc_device.proofs.EntryBounds.{IsEntry, entries_are, entries-some, together_are}
 
 -- a text with these bounds
 pub is_text-from : (most : ℕ) (p : ℕ → Bool) (text : List ℕ) → 0 < length text → length text ≤ most → list_all p text ≡ true → is_text most p text ≡ true
@@ -85,11 +85,15 @@ pair_is e p entry h =
     subst (λ q. is_host_pair q ≡ true) parts.3
     (and_from _ _ (is_text-from 255 is_node_byte name parts.0 parts.2 name_bytes) (is_text-from 4094 is_entry_byte port parts.1 (omega arith) port_bytes))
 
--- the names and ports of a host map
-pub pairs_are : (text : List ℕ) (pairs : List Pair) → length text ≤ 4096 → list_all is_value_byte text ≡ true → host_map text ≡ Ok pairs → (length pairs ≤ 256) × (list_all is_host_pair pairs ≡ true)
+-- a colon is no separator
+colon_in_entry : (b : ℕ) → is_colon b ≡ true → separates_map b ≡ false
+colon_in_entry b h = grind (arith, nat_tests)
+
+-- the names and ports of a host map: with a colon there is one
+pub pairs_are : (text : List ℕ) (pairs : List Pair) → length text ≤ 4096 → list_all is_value_byte text ≡ true → host_map text ≡ Ok pairs → (length pairs ≤ 256) × (list_all is_host_pair pairs ≡ true) × (list_any is_colon text ≡ true → 0 < length pairs)
 pairs_are text pairs short bytes h =
     let es = entries separates_map text in
     let few = few_entries host_pair es pairs h in
     let all = entries_are separates_map is_value_byte 4096 text short bytes in
     let read = together_are (IsEntry separates_map is_value_byte 4096) (λ p. is_host_pair p ≡ true) host_pair pair_is es pairs all few.1 in
-    (omega (arith, read.1, few.0), list_all-each is_host_pair pairs read.0)
+    (omega (arith, read.1, few.0), list_all-each is_host_pair pairs read.0, λ colon. let some = entries-some separates_map is_colon colon_in_entry text colon in omega (arith, read.1))

@@ -106,21 +106,23 @@ delays_are (p ∷ ps) ds nodes h =
     subst (λ ds. (length ds ≡ suc (length ps)) × (list_all is_delay ds ≡ true)) (same_Ok (first.0 ∷ rest.0) ds rest.2)
     (ap suc others.0, and_from _ _ (delay_is p first.0 node.0 first.1) others.1)
 
-base_text : (colon : Bool) (text : List ℕ) (base : Base) → is_option_value text ≡ true → cond colon (or_fault bad_base (host_map text) >>= λ pairs. delays pairs >>= λ ds. Ok (Base.ByNode ds)) (or_bad (codes "pcmk_delay_base") (duration text) >>= λ ms. Ok (Base.Fixed ms)) ≡ Ok base → is_base base ≡ true
-base_text true text base value h =
+base_text : (colon : Bool) (text : List ℕ) (base : Base) → list_any is_colon text ≡ colon → is_option_value text ≡ true → cond colon (or_fault bad_base (host_map text) >>= λ pairs. delays pairs >>= λ ds. Ok (Base.ByNode ds)) (or_bad (codes "pcmk_delay_base") (duration text) >>= λ ms. Ok (Base.Fixed ms)) ≡ Ok base → is_base base ≡ true
+base_text true text base is value h =
     let parts = and_parts (nat_le (length text) 4096) (list_all is_value_byte text) value in
     let pairs = bind_ok (or_fault bad_base (host_map text)) (λ pairs. delays pairs >>= λ ds. Ok (Base.ByNode ds)) base h in
     let ds = bind_ok (delays pairs.0) (λ ds. Ok (Base.ByNode ds)) base pairs.2 in
     let nodes = pairs_are text pairs.0 (leb-true _ _ parts.0) parts.1 (or_fault_is bad_base (host_map text) pairs.0 pairs.1) in
     let all = delays_are pairs.0 ds.0 nodes.1 ds.1 in
-    subst (λ b. is_base b ≡ true) (same_Ok (Base.ByNode ds.0) base ds.2) (and_from _ _ (le-leb (length ds.0) 256 (omega (arith, all.0, nodes.0))) all.1)
-base_text false text base value h =
+    let some : 0 < length pairs.0 = nodes.2 is in
+    subst (λ b. is_base b ≡ true) (same_Ok (Base.ByNode ds.0) base ds.2)
+    (and_from _ _ (and_from _ _ (lt-ltb 0 (length ds.0) (omega (arith, all.0, some))) (le-leb (length ds.0) 256 (omega (arith, all.0, nodes.0)))) all.1)
+base_text false text base is value h =
     let ms = bind_ok (or_bad (codes "pcmk_delay_base") (duration text)) (λ ms. Ok (Base.Fixed ms)) base h in
     subst (λ b. is_base b ≡ true) (same_Ok (Base.Fixed ms.0) base ms.2) (duration_is text ms.0 (or_bad_is _ (duration text) ms.0 ms.1))
 
 pub base_is : (value : Option (List ℕ)) (base : Base) → ((text : List ℕ) → value ≡ Some text → is_option_value text ≡ true) → base_of value ≡ Ok base → is_base base ≡ true
 base_is None base well h = subst (λ b. is_base b ≡ true) (same_Ok (Base.Fixed 0) base h) refl
-base_is (Some text) base well h = base_text (list_any is_colon text) text base (well text refl) h
+base_is (Some text) base well h = base_text (list_any is_colon text) text base refl (well text refl) h
 
 -- what an action is allowed
 some_time_is : (name : List ℕ) (r : Result ℕ DurationFault) (ms : ℕ) → some_time name r ≡ Ok ms → (r ≡ Ok ms) × (nat_lt 0 ms ≡ true)

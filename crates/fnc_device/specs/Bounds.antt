@@ -58,9 +58,10 @@ is_time ms = nat_le ms 86400000
 abbrev pub is_delay : Delay → Bool
 is_delay d = is_node d.name && is_time d.ms
 
+-- the base of the delay: one for all nodes, or those of 1 to 256 nodes
 abbrev pub is_base : Base → Bool
 is_base (Base.Fixed ms) = is_time ms
-is_base (Base.ByNode ds) = nat_le (length ds) 256 && list_all is_delay ds
+is_base (Base.ByNode ds) = nat_lt 0 (length ds) && nat_le (length ds) 256 && list_all is_delay ds
 
 -- the word that is sent in place of an action
 abbrev pub is_action_word : List ℕ → Bool
