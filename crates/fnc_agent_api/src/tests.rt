@@ -199,3 +199,41 @@ fn counts_parameters(rt: HostRuntime) -> Result<(), Fail> {
     );
     Ok(())
 }
+
+fn with_parameter(alloc: Global, length: usize) -> Result<String, AllocError> {
+    let mut json = String::from_str(alloc, "{\"actions\":[\"off\"],\"parameters\":[{\"name\":\"")?;
+    for _ in 0..length {
+        json.push('x')?;
+    }
+    json.push_str("\"}]}")?;
+    Ok(json)
+}
+
+#[test]
+fn measures_parameters(rt: HostRuntime) -> Result<(), Fail> {
+    let longest = with_parameter(rt.alloc(), 64)?;
+    let longer = with_parameter(rt.alloc(), 65)?;
+    let told = read_description(rt.alloc(), longest.as_bytes())?;
+    assert_eq!(rt; told.parameters.as_slice().len(), 1);
+    assert_eq!(rt; told.parameters.as_slice()[0].name.as_str().len(), 64);
+    let field = Field::Parameters;
+    let fault = DescribeFault::BadField { field };
+    assert_eq!(rt;
+        read_description(rt.alloc(), longer.as_bytes()).err(),
+        Some(fault)
+    );
+    Ok(())
+}
+
+#[test]
+fn reads_what_was_written(rt: HostRuntime) -> Result<(), Fail> {
+    let mut own = Pairs::new(rt.alloc());
+    own.push(pair(rt.alloc(), "ip", " 10.0.0.1#=")?)?;
+    own.push(pair(rt.alloc(), "ip", "")?)?;
+    let text = options_text(rt.alloc(), "off", Some("n1"), None, &own)?;
+    let read = read_options(rt.alloc(), text.as_slice())?;
+    assert_eq!(rt; read.as_slice().len(), 4);
+    assert_eq!(rt; read.as_slice()[2].value.as_str(), " 10.0.0.1#=");
+    assert_eq!(rt; read.get("ip").map(|v| v.as_str()), Some(""));
+    Ok(())
+}
