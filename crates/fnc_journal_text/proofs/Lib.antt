@@ -1,0 +1,5 @@
+pub mod Pieces
+pub mod Listing
+pub mod ActionWords
+pub mod Escapes
+pub mod Lines

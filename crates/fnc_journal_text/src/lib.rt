@@ -1,0 +1,15 @@
+// The journal on paper, version 3 of its text: one line for each entry, and one spelling for each.
+#![tactic(auto)]
+
+mod definition;
+mod event;
+mod form;
+mod lists;
+mod paper;
+mod parts;
+mod printing;
+mod words;
+
+pub use form::Form;
+pub use paper::{head_line, print_entry, print_head, print_one};
+pub use printing::{Piece, print_pieces};
