@@ -35,14 +35,8 @@ text-more (e ∷ before) n l = go (n == length before) refl (λ k. text-more bef
         let less : n < length before = omega arith in
         rw (le-ltb (length before) (n + 1) (omega arith), le-ltb (length before) n (omega arith)) (ih less)
 
-module _ (e : Entry) (start first second third : Option (List ℕ)) (moment : Gains start first (decimal e.moment ++ [])) where
-  begun : Gains start first (decimal e.moment)
-  begun = subst (Gains start first) (append-nil (decimal e.moment)) moment
-
-  -- a part of the words was written
-  pub line-cut : AppendsPart first second (spaced (words_of e.event)) → AppendsPart start second (printed e)
-  line-cut part = part-of_front start second (line_of e) (codes "\n") (gains-part start first second (decimal e.moment) (spaced (words_of e.event)) begun part)
-
-  -- all words were written, and maybe the line feed
-  pub line-ended : Gains first second (spaced (words_of e.event)) → AppendsPart second third (codes "\n") → AppendsPart start third (printed e)
-  line-ended words part = gains-part start second third (line_of e) (codes "\n") (gains-gains start first second (decimal e.moment) (spaced (words_of e.event)) begun words) part
+-- the words after the moment, or a part of them
+pub words-cut : (e : Entry) (start first second : Option (List ℕ)) → Gains start first (decimal e.moment ++ []) → AppendsPart first second (spaced (words_of e.event)) →
+    AppendsPart start second (line_of e)
+words-cut e start first second moment part =
+    gains-part start first second (decimal e.moment) (spaced (words_of e.event)) (subst (Gains start first) (append-nil (decimal e.moment)) moment) part

@@ -7,6 +7,7 @@ ghost use Rattle.fnc_outside.specs.Writes.{AppendsPart};
 ghost use Rattle.fnc_journal.specs.Prefix.{prefix};
 ghost use Rattle.fnc_journal_text.specs.Paper as Paper;
 ghost use Rattle.fnc_journal_text.specs.Printed.{Climbs};
+ghost use Rattle.fnc_journal_text.specs.Spelled.{line_of};
 
 use crate::event::print_event;
 use crate::form::Form;
@@ -34,6 +35,17 @@ pub fn print_head<K: Sink>(form: Form, sink: &mut K) -> Result<(), SinkFailed>
     }
 }
 
+/// Prints the spelling of an entry, without the line feed.
+pub(crate) fn print_spelling<K: Sink>(entry: &Entry, sink: &mut K) -> Result<(), SinkFailed>
+    ensures ok { OnOk result (Gains (K.held sink.old) (K.held sink.new) (line_of entry.now)) }
+    ensures err { OnErr result (AppendsPart (K.held sink.old) (K.held sink.new) (line_of entry.now)) }
+    ensures count { Climbs (K.faults sink.old) (K.faults sink.new) }
+    ensures cause { OnErr result (Rose (K.faults sink.old) (K.faults sink.new)) }
+{
+    print_pieces(&[Piece::Number(entry.moment)], sink)?;
+    print_event(&entry.event, sink)
+}
+
 /// Prints the line of an entry. Where a write fails a part from the front of the line was printed.
 pub fn print_one<K: Sink>(entry: &Entry, sink: &mut K) -> Result<(), SinkFailed>
     ensures ok { OnOk result (Gains (K.held sink.old) (K.held sink.new) (Paper.printed entry.now)) }
@@ -41,8 +53,7 @@ pub fn print_one<K: Sink>(entry: &Entry, sink: &mut K) -> Result<(), SinkFailed>
     ensures count { Climbs (K.faults sink.old) (K.faults sink.new) }
     ensures cause { OnErr result (Rose (K.faults sink.old) (K.faults sink.new)) }
 {
-    print_pieces(&[Piece::Number(entry.moment)], sink)?;
-    print_event(&entry.event, sink)?;
+    print_spelling(entry, sink)?;
     print_pieces(&[Piece::Word("\n")], sink)
 }
 
