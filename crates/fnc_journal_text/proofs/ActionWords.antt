@@ -1,5 +1,5 @@
 -- The pieces of a list of actions, case by case.
-use Rattle.std.proofs.Common.{◌≡◌, Bool, true, false, ◌&&◌, ◌||◌, cond, List, ℕ, [], ◌++◌, codes, refl}
+use Rattle.std.proofs.Common.{◌≡◌, Bool, true, false, ◌&&◌, ◌||◌, cond, [], ◌++◌, codes, refl}
 use Rattle.fnc_journal_text.specs.Spelled.{actions_text}
 
 pub actions-pieces : (on off reboot list status : Bool) →

@@ -1,11 +1,10 @@
 -- Each entry within the bounds is read back from its line.
-use Rattle.std.proofs.Common.{◌≡◌, ◌<◌, ◌≤◌, ◌^◌, ℕ, List, [], ◌∷◌, ◌++◌, Bool, true, false, ◌&&◌, length, map, codes, decimal, Result, Ok, Err, refl, sym, ap, ◌∙◌, arith}
-use Rattle.std.specs.Prelude.{nat_lt, nat_le, not}
-use Rattle.std.specs.List.{list_all, list_any}
-use Rattle.std.proofs.lemmas.Bool.{and_parts, leb-true, ltb-true}
+use Rattle.std.proofs.Common.{◌≡◌, ◌<◌, ◌≤◌, ◌^◌, ℕ, List, [], ◌∷◌, Bool, true, length, map, decimal, Ok, refl, ap, ◌∙◌, arith}
+use Rattle.std.specs.Prelude.{nat_lt, nat_le}
+use Rattle.std.specs.List.{list_all}
+use Rattle.std.proofs.lemmas.Bool.{and_parts, leb-true}
 use Rattle.fnc_journal.specs.declared.definition.Actions.{Actions}
 use Rattle.fnc_journal.specs.declared.definition.Definition.{Definition}
-use Rattle.fnc_journal.specs.declared.definition.Description.{Description}
 use Rattle.fnc_journal.specs.declared.definition.Registration.{Registration}
 use Rattle.fnc_journal.specs.declared.entry.Entry.{Entry}
 use Rattle.fnc_journal.specs.declared.entry.Event.{Event}
@@ -13,11 +12,9 @@ use Rattle.fnc_journal.specs.declared.entry.LevelTarget.{LevelTarget}
 use Rattle.fnc_journal.specs.declared.entry.Reg.{Reg}
 use Rattle.fnc_journal.specs.Line.{escaped}
 use Rattle.fnc_text.specs.Names.{is_name}
-use Rattle.fnc_journal_text.specs.declared.fault.EntryFault.{EntryFault}
 use Rattle.fnc_journal_text.specs.Bounds as Bounds
 use Rattle.fnc_journal_text.specs.Cuts.{nth, words}
 use Rattle.fnc_journal_text.specs.Entries.{entry_of, event_of, definition_of}
-use Rattle.fnc_journal_text.specs.Reads.{◌>>=◌}
 use Rattle.fnc_journal_text.specs.Spelled as Spelled
 use Rattle.fnc_journal_text.specs.Spelled.{line_of, words_of}
 use Rattle.fnc_journal_text.specs.Typed as Typed

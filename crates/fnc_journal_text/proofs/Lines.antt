@@ -1,8 +1,8 @@
 -- The line of the entry of an index, and the text that grows by it.
-use Rattle.std.proofs.Common.{◌≡◌, ◌<◌, ◌+◌, ◌==◌, ℕ, List, [], ◌∷◌, ◌++◌, Bool, true, false, cond, Option, Some, None, length, refl, sym, ap, ◌∙◌, subst, arith, append_assoc, append-nil, decimal, codes, eqb-true, false-eqb, ltb, le-ltb, lt-ltb}
+use Rattle.std.proofs.Common.{◌≡◌, ◌<◌, ◌+◌, ◌==◌, ℕ, List, [], ◌∷◌, ◌++◌, Bool, true, false, cond, Option, Some, length, refl, sym, ap, subst, arith, append-nil, decimal, eqb-true, false-eqb, le-ltb, lt-ltb}
 use Rattle.fnc_outside.specs.Told.{Gains}
 use Rattle.fnc_outside.specs.Writes.{AppendsPart}
-use Rattle.fnc_outside.proofs.Telling.{gains-gains, gains-part}
+use Rattle.fnc_outside.proofs.Telling.{gains-part}
 use Rattle.fnc_journal.specs.declared.entry.Entry.{Entry}
 use Rattle.fnc_journal.specs.History.{History}
 use Rattle.fnc_journal.specs.Found.{entry_at}
@@ -10,7 +10,6 @@ use Rattle.fnc_journal.specs.Prefix.{prefix}
 use Rattle.fnc_journal.proofs.Prefixes.{prefix-all}
 use Rattle.fnc_journal_text.specs.Paper.{printed, line_at, journal_text}
 use Rattle.fnc_journal_text.specs.Spelled.{line_of, spaced, words_of}
-use Rattle.fnc_journal_text.proofs.Pieces.{part-of_front}
 
 pub line-found : (h : History) (n : ℕ) (e : Entry) → entry_at n h ≡ Some e → line_at n h ≡ printed e
 line-found [] n e f = cc

@@ -1,8 +1,8 @@
 -- Lists of a line, and what they are made of, are read back from their spellings.
-use Rattle.std.proofs.Common.{◌≡◌, ◌<◌, ◌≤◌, ◌+◌, ◌^◌, ◌==◌, ℕ, List, [], ◌∷◌, ◌++◌, Bool, true, false, ◌&&◌, length, map, codes, decimal, Option, Some, None, Result, Ok, Err, refl, sym, ap, ap₂, ◌∙◌, append_assoc, append-nil, arith}
-use Rattle.std.specs.Prelude.{nat_lt, nat_le, drop, not}
+use Rattle.std.proofs.Common.{◌≡◌, ◌<◌, ◌≤◌, ◌^◌, ◌==◌, ℕ, List, [], ◌∷◌, ◌++◌, Bool, true, false, length, map, codes, decimal, Ok, refl, ap, ◌∙◌, append_assoc, arith}
+use Rattle.std.specs.Prelude.{nat_lt, nat_le}
 use Rattle.std.specs.List.{list_all, list_any}
-use Rattle.std.proofs.lemmas.Bool.{and_parts, leb-true, ltb-true}
+use Rattle.std.proofs.lemmas.Bool.{and_parts, leb-true}
 use Rattle.fnc_journal.specs.declared.definition.Allowed.{Allowed}
 use Rattle.fnc_journal.specs.declared.definition.Base.{Base}
 use Rattle.fnc_journal.specs.declared.definition.Delay.{Delay}
@@ -10,10 +10,9 @@ use Rattle.fnc_journal.specs.declared.definition.Parameter.{Parameter}
 use Rattle.fnc_journal.specs.declared.names.Pair.{Pair}
 use Rattle.fnc_journal.specs.Line.{escaped}
 use Rattle.fnc_text.specs.Names.{is_name}
-use Rattle.fnc_journal_text.specs.declared.fault.EntryFault.{EntryFault}
 use Rattle.fnc_journal_text.specs.Bounds as Bounds
 use Rattle.fnc_journal_text.specs.Cuts.{front, after, parts}
-use Rattle.fnc_journal_text.specs.Reads.{◌>>=◌, each}
+use Rattle.fnc_journal_text.specs.Reads.{each}
 use Rattle.fnc_journal_text.specs.Spelled as Spelled
 use Rattle.fnc_journal_text.specs.Typed as Typed
 use Rattle.fnc_journal_text.specs.Values as Values

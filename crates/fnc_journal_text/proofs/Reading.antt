@@ -1,10 +1,10 @@
 -- Parts that are read one after another.
-use Rattle.std.proofs.Common.{◌≡◌, ◌<◌, ℕ, List, [], ◌∷◌, ◌++◌, Bool, true, false, ◌||◌, length, Result, Ok, Err, refl, ap, ap₂, sym, ◌∙◌, append_assoc, append-nil}
+use Rattle.std.proofs.Common.{◌≡◌, ℕ, List, [], ◌∷◌, ◌++◌, Bool, true, false, ◌||◌, Result, Ok, Err, refl, ap, ap₂, sym, ◌∙◌, append_assoc, append-nil}
 use Rattle.std.specs.Prelude.{bytes_eq}
 use Rattle.std.specs.List.{list_any}
 use Rattle.fnc_journal_text.specs.declared.fault.EntryFault.{EntryFault}
 use Rattle.fnc_journal_text.specs.Cuts.{front, after, parts}
-use Rattle.fnc_journal_text.specs.Reads.{◌>>=◌, Fails, Gives, each}
+use Rattle.fnc_journal_text.specs.Reads.{◌>>=◌, Fails, each}
 use Rattle.fnc_journal_text.specs.Values.{has_word}
 use Rattle.fnc_journal_text.proofs.Cutting.{IsCut}
 

@@ -1,20 +1,19 @@
 -- The bytes of what is spelled: escaped texts and numbers have no byte that separates.
-use Rattle.std.proofs.Common.{◌≡◌, ◌<◌, ◌≤◌, ◌+◌, ◌*◌, ◌/◌, ◌%◌, ◌^◌, ◌==◌, ℕ, zero, suc, ℤ, pos, negsuc, List, [], ◌∷◌, ◌++◌, Bool, true, false, ◌&&◌, ◌||◌, cond, length, codes, decimal, Option, Some, None, Result, Ok, Err, refl, sym, ap, ap₂, ◌∙◌, subst, arith, rules, eqb-true}
-use Rattle.std.specs.Prelude.{nat_lt, nat_le, not, bytes_eq}
-use Rattle.std.specs.Fmt.{signed_decimal}
+use Rattle.std.proofs.Common.{◌≡◌, ◌<◌, ◌≤◌, ◌+◌, ◌*◌, ◌/◌, ◌%◌, ◌^◌, ◌==◌, ℕ, zero, suc, List, [], ◌∷◌, ◌++◌, Bool, true, false, ◌&&◌, ◌||◌, cond, length, decimal, Some, None, Ok, refl, sym, ap, ◌∙◌, arith, rules, eqb-true}
+use Rattle.std.specs.Prelude.{nat_lt, not, bytes_eq}
 use Rattle.std.specs.Char.{is_ascii_digit, is_ascii_hexdigit, digit_value}
-use Rattle.std.specs.List.{list_all, flat_map}
+use Rattle.std.specs.List.{list_all}
 use Rattle.std.specs.Str.{is_utf8}
-use Rattle.std.proofs.lemmas.Bool.{and_parts, and_from, leb-true, le-leb, lt-ltb, ltb-true}
+use Rattle.std.proofs.lemmas.Bool.{and_parts, le-leb, lt-ltb, ltb-true}
 use Rattle.std.proofs.lemmas.Bool.{false≢true}
 use Rattle.std.proofs.lemmas.Bool.Decides.{Decides-below_and, nat_tests}
 use Rattle.std.proofs.lemmas.Fmt.{digits_decimal, digits_value-decimal, decimal_nonempty, length-decimal-le}
 use Rattle.std.proofs.lemmas.Str.Parse.{IsNumeralModel, numerals_by_weight}
 use Rattle.std.proofs.lemmas.List.Folds.{list_all-append}
 use Rattle.fnc_journal.specs.Line.{escaped, escaped_byte, hex_digit, is_plain}
-use Rattle.fnc_text.specs.declared.escape.EscapeFault.{EscapeFault}
-use Rattle.fnc_text.specs.Digits.{at_most, digits_value, is_number, number}
-use Rattle.fnc_text.specs.Escapes.{begins_hexadecimal, malformed_from, spelled, unescaped, unescaped_text, as_text, unless_malformed}
+use Rattle.fnc_journal_text.proofs.CharacterBytes.{are_bytes}
+use Rattle.fnc_text.specs.Digits.{digits_value, number}
+use Rattle.fnc_text.specs.Escapes.{malformed_from, spelled, unescaped_text}
 
 -- a byte that escaped texts and numbers are made of
 abbrev pub is_safe : ℕ → Bool
@@ -56,10 +55,6 @@ all-implied p q f (x ∷ xs) h = let parts = and_parts (p x) (list_all p xs) h i
 pub not-true : (b : Bool) → not b ≡ true → b ≡ false
 not-true true h = absurd cc
 not-true false h = refl
-
--- a text is escaped byte by byte
-abbrev pub are_bytes : List ℕ → Bool
-are_bytes text = list_all (λ b. nat_lt b 256) text
 
 pub escaped-safe : (text : List ℕ) → are_bytes text ≡ true → list_all is_safe (escaped text) ≡ true
 escaped-safe [] h = refl

@@ -1,36 +1,29 @@
 -- Values are read back from their spellings.
-use Rattle.std.proofs.Common.{◌≡◌, ◌<◌, ◌≤◌, ◌+◌, ◌^◌, ◌==◌, ℕ, suc, ℤ, pos, negsuc, List, [], ◌∷◌, ◌++◌, Bool, true, false, ◌&&◌, ◌||◌, cond, length, map, codes, decimal, Option, Some, None, Result, Ok, Err, refl, sym, ap, ◌∙◌, append_assoc, append-nil, arith}
-use Rattle.std.specs.Prelude.{nat_lt, nat_le, bytes_eq, drop}
+use Rattle.std.proofs.Common.{◌≡◌, ◌<◌, ◌≤◌, ◌^◌, ℕ, suc, ℤ, pos, negsuc, List, [], ◌∷◌, Bool, true, false, map, codes, decimal, Option, Some, None, Result, Ok, refl, ap, ◌∙◌, arith}
+use Rattle.std.specs.Prelude.{nat_lt, nat_le}
 use Rattle.std.specs.Fmt.{signed_decimal}
 use Rattle.std.specs.Char.{is_ascii_digit}
-use Rattle.std.specs.List.{list_all, list_any}
-use Rattle.std.specs.Str.{is_utf8}
-use Rattle.std.proofs.lemmas.Bool.{and_parts, leb-true, ltb-true, le-leb}
+use Rattle.std.specs.List.{list_all}
+use Rattle.std.proofs.lemmas.Bool.{and_parts, leb-true, ltb-true}
 use Rattle.fnc_journal.specs.declared.cause.Cause.{Cause}
-use Rattle.fnc_journal.specs.declared.definition.Actions.{Actions}
-use Rattle.fnc_journal.specs.declared.definition.Allowed.{Allowed}
-use Rattle.fnc_journal.specs.declared.definition.Base.{Base}
-use Rattle.fnc_journal.specs.declared.definition.Delay.{Delay}
 use Rattle.fnc_journal.specs.declared.definition.HostCheck.{HostCheck}
-use Rattle.fnc_journal.specs.declared.definition.Parameter.{Parameter}
 use Rattle.fnc_journal.specs.declared.entry.Answer.{Answer}
 use Rattle.fnc_journal.specs.declared.entry.Exit.{Exit}
 use Rattle.fnc_journal.specs.declared.entry.Kind.{Kind}
 use Rattle.fnc_journal.specs.declared.entry.LevelTarget.{LevelTarget}
 use Rattle.fnc_journal.specs.declared.entry.Phase.{Phase}
 use Rattle.fnc_journal.specs.declared.entry.Scope.{Scope}
-use Rattle.fnc_journal.specs.declared.names.Pair.{Pair}
 use Rattle.fnc_journal.specs.Causes.{word_of}
 use Rattle.fnc_journal.specs.Line.{escaped, kind_word}
 use Rattle.fnc_journal_text.specs.declared.fault.EntryFault.{EntryFault}
 use Rattle.fnc_journal_text.specs.Bounds as Bounds
-use Rattle.fnc_journal_text.specs.Cuts.{front, after, parts}
 use Rattle.fnc_journal_text.specs.Reads.{◌>>=◌, each, or_malformed}
 use Rattle.fnc_journal_text.specs.Spelled as Spelled
 use Rattle.fnc_journal_text.specs.Typed as Typed
 use Rattle.fnc_journal_text.specs.Values as Values
-use Rattle.fnc_journal_text.proofs.Spellings.{is_safe, lacks, has_byte, some-has, escaped-has, decimal-has, escaped-lacks, decimal-lacks, decimal-digits, digit-other, digits-differ, number-back, unescaped-back, lacks-append}
-use Rattle.fnc_journal_text.proofs.Splits.{front-at, after-at, any-at, any-none, is_part, parts-listed}
+use Rattle.fnc_journal_text.proofs.Spellings.{is_safe, lacks, has_byte, escaped-has, decimal-has, escaped-lacks, decimal-lacks, decimal-digits, digit-other, digits-differ, number-back, unescaped-back}
+use Rattle.fnc_journal_text.proofs.CharacterBytes.{characters-bytes}
+use Rattle.fnc_journal_text.proofs.Splits.{is_part}
 
 -- a step that succeeds
 pub step : {A B : Type 0} (r : Result A EntryFault) (x : A) (f : A → Result B EntryFault) (y : Result B EntryFault) → r ≡ Ok x → f x ≡ y → (r >>= f) ≡ y
@@ -59,10 +52,10 @@ u8-back n h = number_of-back 255 n (omega (arith, h)) (omega (arith, h))
 
 -- texts
 pub text-back : (t : List ℕ) → Typed.are_characters t ≡ true → Values.text_of (escaped t) ≡ Ok t
-text-back t h = let two = and_parts _ (is_utf8 t) h in ap Values.or_no_text (unescaped-back t two.0 two.1)
+text-back t h = ap Values.or_no_text (unescaped-back t (characters-bytes t h) h)
 
 pub text-lacks : (sep : ℕ) (t : List ℕ) → is_safe sep ≡ false → Typed.are_characters t ≡ true → lacks sep (escaped t) ≡ true
-text-lacks sep t s h = escaped-lacks sep t s (and_parts _ (is_utf8 t) h).0
+text-lacks sep t s h = escaped-lacks sep t s (characters-bytes t h)
 
 pub part-of : (sep : ℕ) (w : List ℕ) → has_byte w ≡ true → lacks sep w ≡ true → is_part sep w ≡ true
 part-of sep w h k = rw (h, k) refl

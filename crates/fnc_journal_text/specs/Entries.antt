@@ -1,10 +1,10 @@
 -- What the words of a line are read as: the entry, where they are those of one.
-use Rattle.std.specs.Prelude.{ℕ, List, [], if◌then◌else◌, Result, Ok, Err, bytes_eq, codes, drop}
+use Rattle.std.specs.Prelude.{ℕ, List, if◌then◌else◌, Result, Ok, Err, bytes_eq, codes, drop}
 use Rattle.fnc_journal.specs.declared.definition.Definition.{Definition}
 use Rattle.fnc_journal.specs.declared.entry.Entry.{Entry}
 use Rattle.fnc_journal.specs.declared.entry.Event.{Event}
 use Rattle.fnc_journal_text.specs.declared.fault.EntryFault.{EntryFault}
-use Rattle.fnc_journal_text.specs.Cuts.{nth, parts, value, words}
+use Rattle.fnc_journal_text.specs.Cuts.{nth, parts, value}
 use Rattle.fnc_journal_text.specs.Reads.{◌>>=◌, each}
 use Rattle.fnc_journal_text.specs.Values.{u64_of, u32_of, u8_of, text_of, optional_of, flag_of, actions_of, check_of, kind_of, phase_of, exit_of, cause_of, scope_of, answer_of, target_of, cap_of, priority_of, pair_of, own_of, parameter_of, base_of, allowed_of}
 

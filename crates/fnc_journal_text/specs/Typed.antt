@@ -1,6 +1,6 @@
 -- What the types of an entry's fields hold: characters and numbers of so many bits. The bounds of its texts and of the
 -- numbers of a definition stand beside this.
-use Rattle.std.specs.Prelude.{ℕ, List, Bool, true, ◌&&◌, ◌<◌, ◌^◌, nat_lt, IsTrue, Option, Some, None}
+use Rattle.std.specs.Prelude.{ℕ, List, Bool, true, ◌&&◌, ◌<◌, ◌^◌, IsTrue, Option, Some, None}
 use Rattle.std.specs.List.{list_all}
 use Rattle.std.specs.Str.{is_utf8}
 use Rattle.fnc_journal.specs.declared.definition.Base.{Base}
@@ -19,7 +19,7 @@ use Rattle.fnc_journal.specs.declared.names.Pair.{Pair}
 
 -- bytes that are characters
 abbrev pub are_characters : List ℕ → Bool
-are_characters text = list_all (λ b. nat_lt b 256) text && is_utf8 text
+are_characters text = is_utf8 text
 
 abbrev pub is_optional : Option (List ℕ) → Bool
 is_optional None = true

@@ -22,4 +22,4 @@ pub use fault::EntryFault;
 pub use form::Form;
 pub use paper::{head_line, print_entry, print_head, print_one};
 pub use printing::{Piece, print_pieces};
-pub use read::read_entry;
+pub use read::{read_entry, spelled_once};

@@ -264,10 +264,11 @@ fn read_reply(line: &[u8]) -> Result<Event, EntryFault>
     })
 }
 
-/// Reads a line of a journal's text. Each entry within the bounds has one spelling, and no other line
-/// is read as it.
+/// Reads a line of a journal's text. Each entry within the bounds is read from its line, and no other
+/// line is read.
 pub fn read_entry(alloc: Global, line: &[u8]) -> Result<Entry, EntryFault>
     ensures spelled { IfOk result (λ e. (line_of e ≡ line.now) × IsTrue (is_within e)) }
+    ensures typed { IfOk result IsTyped }
     ensures back { (e : Entry) → IsTyped e → IsTrue (is_within e) → line_of e ≡ line.now → Gives result (Ok e) }
 {
     let entry = read_words(alloc, line)?;
@@ -279,3 +280,8 @@ pub fn read_entry(alloc: Global, line: &[u8]) -> Result<Entry, EntryFault>
     }
     Ok(entry)
 }
+
+/// No two entries within the bounds have the same line.
+pub fn spelled_once()
+    ensures { (d e : Entry) → IsTyped d → IsTrue (is_within d) → IsTyped e → IsTrue (is_within e) → line_of d ≡ line_of e → d ≡ e }
+{}

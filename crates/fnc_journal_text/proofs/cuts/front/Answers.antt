@@ -1,4 +1,3 @@
-use Rattle.std.proofs.Common.{◌∙◌, ap, take}
 use Rattle.fnc_journal_text.proofs.Cutting.{front-taken}
 use Rattle.fnc_journal_text.proofs.cuts.front.Goals as goal
 

@@ -1,6 +1,8 @@
 use Rattle.std.proofs.Common.{Ok, sym, ap, ◌∙◌}
 use Rattle.std.proofs.lemmas.Result.{err_from_is_err_and}
 use Rattle.fnc_journal_text.proofs.Answering.{same-fault, same-entry, not-outside, not-other}
+use Rattle.fnc_journal_text.specs.Cuts.{words}
+use Rattle.fnc_journal_text.proofs.TypedBack.{entry-typed}
 use Rattle.fnc_journal_text.proofs.read.read_entry.Goals as goal
 
 pub returns-in_err-entry-clause-back : goal.returns-in_err-entry-clause-back
@@ -20,3 +22,6 @@ returns-then-not-branch-clause-back c =
 pub returns-clause-back : goal.returns-clause-back
 returns-clause-back c =
     λ e typed within spelled. ap Ok (same-entry c.args.line.now e typed within spelled c.in_ok-entry.entry c.in_ok-entry.ensures)
+
+pub returns-clause-typed : goal.returns-clause-typed
+returns-clause-typed c = entry-typed (words c.args.line.now) c.in_ok-entry.entry c.in_ok-entry.ensures

@@ -1,5 +1,4 @@
-use Rattle.std.proofs.Common.{◌≡◌, ◌<◌, ◌∙◌, length, sym, ap, subst}
-use Rattle.fnc_journal_text.specs.Values.{has_word}
+use Rattle.std.proofs.Common.{◌<◌, ◌∙◌, length, sym, subst}
 use Rattle.fnc_journal_text.proofs.Cutting.{not_empty}
 use Rattle.fnc_journal_text.proofs.Reading.{has-found, has-passed}
 use Rattle.fnc_journal_text.proofs.values.has_word.Goals as goal

@@ -1,4 +1,3 @@
-use Rattle.std.proofs.Common.{◌∙◌}
 use Rattle.fnc_journal_text.proofs.ActionWords.{actions-pieces}
 use Rattle.fnc_journal_text.proofs.words.actions_pieces.Goals as goal
 
