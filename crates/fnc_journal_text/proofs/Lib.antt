@@ -1,0 +1,15 @@
+pub mod Pieces
+pub mod Listing
+pub mod ActionWords
+pub mod Escapes
+pub mod Lines
+pub mod Cutting
+pub mod Reading
+pub mod CharacterBytes
+pub mod Spellings
+pub mod Splits
+pub mod ValuesBack
+pub mod ListsBack
+pub mod EntriesBack
+pub mod Answering
+pub mod TypedBack

@@ -1,0 +1,10 @@
+pub mod Printed
+pub mod Spelled
+pub mod Parts
+pub mod Paper
+pub mod Reads
+pub mod Cuts
+pub mod Values
+pub mod Entries
+pub mod Bounds
+pub mod Typed

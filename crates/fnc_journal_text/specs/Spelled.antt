@@ -1,0 +1,252 @@
+-- The spelling of an entry: the words of its line, one space between them. Texts are escaped, numbers are decimal without
+-- leading zeros, and no part of a line can be left out or stand elsewhere.
+use Rattle.std.specs.Prelude.{ℕ, List, [], ◌∷◌, ◌++◌, Bool, if◌then◌else◌, Option, Some, None, codes, decimal, map}
+use Rattle.std.specs.Fmt.{signed_decimal}
+use Rattle.std.specs.List.{flat_map}
+use Rattle.fnc_journal.specs.declared.cause.Cause.{Cause}
+use Rattle.fnc_journal.specs.declared.definition.Actions.{Actions}
+use Rattle.fnc_journal.specs.declared.definition.Allowed.{Allowed}
+use Rattle.fnc_journal.specs.declared.definition.Base.{Base}
+use Rattle.fnc_journal.specs.declared.definition.Definition.{Definition}
+use Rattle.fnc_journal.specs.declared.definition.Delay.{Delay}
+use Rattle.fnc_journal.specs.declared.definition.Description.{Description}
+use Rattle.fnc_journal.specs.declared.definition.HostCheck.{HostCheck}
+use Rattle.fnc_journal.specs.declared.definition.Parameter.{Parameter}
+use Rattle.fnc_journal.specs.declared.definition.Registration.{Registration}
+use Rattle.fnc_journal.specs.declared.entry.Answer.{Answer}
+use Rattle.fnc_journal.specs.declared.entry.Entry.{Entry}
+use Rattle.fnc_journal.specs.declared.entry.Event.{Event}
+use Rattle.fnc_journal.specs.declared.entry.Exit.{Exit}
+use Rattle.fnc_journal.specs.declared.entry.Kind.{Kind}
+use Rattle.fnc_journal.specs.declared.entry.LevelTarget.{LevelTarget}
+use Rattle.fnc_journal.specs.declared.entry.Phase.{Phase}
+use Rattle.fnc_journal.specs.declared.entry.Reg.{Reg}
+use Rattle.fnc_journal.specs.declared.entry.Req.{Req}
+use Rattle.fnc_journal.specs.declared.entry.Run.{Run}
+use Rattle.fnc_journal.specs.declared.entry.Scope.{Scope}
+use Rattle.fnc_journal.specs.declared.entry.Slot.{Slot}
+use Rattle.fnc_journal.specs.declared.names.Pair.{Pair}
+use Rattle.fnc_journal.specs.Causes.{word_of}
+use Rattle.fnc_journal.specs.Line.{escaped, kind_word}
+
+-- items one after another: one text stands before the first, another before each that follows
+abbrev pub listed : {X : Type 0} → List ℕ → List ℕ → (X → List ℕ) → List X → List ℕ
+listed before between spell [] = []
+listed before between spell (x ∷ xs) = (before ++ spell x) ++ listed between between spell xs
+
+-- names separated by commas
+abbrev pub names_text : List (List ℕ) → List ℕ
+names_text names = listed [] (codes ",") escaped names
+
+-- `NAME:PORT`
+abbrev pub port_text : Pair → List ℕ
+port_text p = escaped p.name ++ codes ":" ++ escaped p.value
+
+-- hosts and their ports, separated by semicolons
+abbrev pub map_text : List Pair → List ℕ
+map_text pairs = listed [] (codes ";") port_text pairs
+
+-- `NODE:MS`
+abbrev pub delay_text : Delay → List ℕ
+delay_text d = escaped d.name ++ codes ":" ++ decimal d.ms
+
+-- nodes and their delays, separated by semicolons
+abbrev pub delays_text : List Delay → List ℕ
+delays_text delays = listed [] (codes ";") delay_text delays
+
+-- milliseconds for all nodes, or node by node
+abbrev pub base_text : Base → List ℕ
+base_text (Base.Fixed ms) = decimal ms
+base_text (Base.ByNode delays) = delays_text delays
+
+-- a word where it holds, before others
+abbrev pub chosen : Bool → List ℕ → List (List ℕ) → List (List ℕ)
+chosen has word words = if has then word ∷ words else words
+
+-- the actions that there are, in this order
+abbrev pub actions_words : Actions → List (List ℕ)
+actions_words a =
+    chosen a.on (codes "on") (chosen a.off (codes "off") (chosen a.reboot (codes "reboot") (chosen a.list (codes "list") (chosen a.status (codes "status") []))))
+
+-- they are separated by commas
+abbrev pub actions_text : Actions → List ℕ
+actions_text a = listed [] (codes ",") (λ word. word) (actions_words a)
+
+-- how a device is asked whether it can fence a node
+abbrev pub check_word : HostCheck → List ℕ
+check_word HostCheck.DynamicList = codes "dynamic-list"
+check_word HostCheck.StaticList = codes "static-list"
+check_word HostCheck.Status = codes "status"
+check_word HostCheck.Nothing = codes "none"
+
+-- a text that need not be there
+abbrev pub text_or_none : Option (List ℕ) → List ℕ
+text_or_none None = []
+text_or_none (Some text) = escaped text
+
+-- a limit of runs, -1 for none
+abbrev pub cap_text : Option ℕ → List ℕ
+cap_text None = codes "-1"
+cap_text (Some n) = decimal n
+
+-- `WORD/MS/TRIES`
+abbrev pub allowed_text : Allowed → List ℕ
+allowed_text a = escaped a.word ++ codes "/" ++ decimal a.time ++ codes "/" ++ decimal a.tries
+
+-- `o.NAME=VALUE`
+abbrev pub own_word : Pair → List ℕ
+own_word o = codes "o." ++ escaped o.name ++ codes "=" ++ escaped o.value
+
+-- the words of a device: its number, its name, its agent, and what it can do for which nodes
+abbrev pub nodes_words : Reg → Registration → List (List ℕ)
+nodes_words reg r =
+    codes "device"
+    ∷ decimal reg.0
+    ∷ escaped r.name
+    ∷ escaped r.agent
+    ∷ (codes "actions=" ++ actions_text r.definition.actions)
+    ∷ (codes "check=" ++ check_word r.definition.check)
+    ∷ (codes "hosts=" ++ names_text r.definition.hosts)
+    ∷ (codes "map=" ++ map_text r.definition.map)
+    ∷ (codes "argument=" ++ text_or_none r.definition.argument)
+    ∷ []
+
+-- then its limits, its times, and its own options
+abbrev pub limits_words : Definition → List (List ℕ)
+limits_words d =
+    (codes "limit=" ++ cap_text d.cap)
+    ∷ (codes "priority=" ++ signed_decimal d.priority)
+    ∷ (codes "delay=" ++ base_text d.base)
+    ∷ (codes "max=" ++ decimal d.max)
+    ∷ (codes "keep=" ++ decimal d.keep)
+    ∷ (codes "on=" ++ allowed_text d.on)
+    ∷ (codes "off=" ++ allowed_text d.off)
+    ∷ (codes "reboot=" ++ allowed_text d.reboot)
+    ∷ (codes "list=" ++ allowed_text d.list)
+    ∷ (codes "status=" ++ allowed_text d.status)
+    ∷ map own_word d.own
+
+-- all of them
+abbrev pub device_words : Reg → Registration → List (List ℕ)
+device_words reg r = nodes_words reg r ++ limits_words r.definition
+
+-- `1` for yes, `0` for no
+abbrev pub flag_text : Bool → List ℕ
+flag_text holds = if holds then codes "1" else codes "0"
+
+-- `p.NAME=1` for a parameter that must be given, `p.NAME=0` for any other
+abbrev pub parameter_word : Parameter → List ℕ
+parameter_word p = codes "p." ++ escaped p.name ++ codes "=" ++ flag_text p.required
+
+-- whether a level is for a name or for a pattern
+abbrev pub target_word : LevelTarget → List ℕ
+target_word (LevelTarget.Name name) = codes "name"
+target_word (LevelTarget.Pattern pattern) = codes "pattern"
+
+-- that name or pattern
+abbrev pub target_text : LevelTarget → List ℕ
+target_text (LevelTarget.Name name) = name
+target_text (LevelTarget.Pattern pattern) = pattern
+
+-- which levels a request takes
+abbrev pub scope_word : Scope → List ℕ
+scope_word Scope.Nothing = codes "none"
+scope_word Scope.Name = codes "name"
+scope_word (Scope.Pattern index) = codes "pattern:" ++ decimal index
+
+-- how a run ended
+abbrev pub exit_word : Exit → List ℕ
+exit_word (Exit.Code code) = decimal code
+exit_word Exit.Signal = codes "signal"
+exit_word Exit.NoStart = codes "no-start"
+exit_word Exit.TooLong = codes "too-long"
+exit_word Exit.NoMemory = codes "no-memory"
+
+-- the part that a slot has in an operation
+abbrev pub phase_word : Phase → List ℕ
+phase_word Phase.Query = codes "query"
+phase_word Phase.Act = codes "act"
+phase_word Phase.Off = codes "off"
+phase_word Phase.On = codes "on"
+
+-- whether a request succeeded
+abbrev pub answer_word : Answer → List ℕ
+answer_word (Answer.Passed level) = codes "ok"
+answer_word Answer.Confirmed = codes "ok"
+answer_word Answer.Levels = codes "failed"
+answer_word Answer.Time = codes "failed"
+answer_word Answer.NoDevice = codes "failed"
+
+-- the level that passed, or what stands in its place
+abbrev pub answer_text : Answer → List ℕ
+answer_text (Answer.Passed level) = decimal level
+answer_text Answer.Confirmed = codes "confirmed"
+answer_text Answer.Levels = codes "levels"
+answer_text Answer.Time = codes "time"
+answer_text Answer.NoDevice = codes "none"
+
+-- a level and its devices
+abbrev pub level_words : ℕ → LevelTarget → List (List ℕ) → List (List ℕ)
+level_words index target devices =
+    codes "level" ∷ decimal index ∷ target_word target ∷ escaped (target_text target) ∷ names_text devices ∷ []
+
+-- a level that is gone
+abbrev pub level_gone_words : ℕ → LevelTarget → List (List ℕ)
+level_gone_words index target = codes "unlevel" ∷ decimal index ∷ target_word target ∷ escaped (target_text target) ∷ []
+
+-- what is told of an agent
+abbrev pub agent_words : List ℕ → Description → List (List ℕ)
+agent_words name d =
+    codes "agent" ∷ escaped name ∷ (codes "actions=" ++ actions_text d.actions) ∷ (codes "target=" ++ text_or_none d.target) ∷ map parameter_word d.parameters
+
+-- how a run ended
+abbrev pub exit_words : Run → Exit → Bool → List (List ℕ)
+exit_words run exit is_listed = codes "exit" ∷ decimal run.0 ∷ exit_word exit ∷ flag_text is_listed ∷ []
+
+-- an operator confirms a node's state
+abbrev pub confirm_words : List ℕ → List ℕ → List (List ℕ)
+confirm_words client target = codes "confirm" ∷ escaped client ∷ escaped target ∷ []
+
+-- why a line was refused
+abbrev pub refused_words : ℕ → Cause → List (List ℕ)
+refused_words line cause = codes "refused" ∷ decimal line ∷ word_of cause ∷ []
+
+-- the start of a run
+abbrev pub start_words : Run → Req → Slot → Reg → Kind → ℕ → List (List ℕ)
+start_words run req slot reg kind attempt =
+    codes "start" ∷ decimal run.0 ∷ decimal req.0 ∷ phase_word slot.phase ∷ decimal slot.level ∷ decimal slot.place ∷ decimal reg.0 ∷ kind_word kind ∷ decimal attempt ∷ []
+
+-- what a request is answered
+abbrev pub reply_words : Req → Answer → List (List ℕ)
+reply_words req answer = codes "reply" ∷ decimal req.0 ∷ answer_word answer ∷ answer_text answer ∷ []
+
+-- the words after the moment
+abbrev pub words_of : Event → List (List ℕ)
+words_of (Event.Device reg registration) = device_words reg registration
+words_of (Event.Gone reg) = codes "gone" ∷ decimal reg.0 ∷ []
+words_of (Event.Level target index devices) = level_words index target devices
+words_of (Event.LevelGone target index) = level_gone_words index target
+words_of (Event.Agent name description) = agent_words name description
+words_of (Event.Ask req lead client kind target total coin scope) =
+    codes "ask" ∷ decimal req.0 ∷ decimal lead.0 ∷ escaped client ∷ kind_word kind ∷ escaped target ∷ decimal total ∷ decimal coin ∷ scope_word scope ∷ []
+words_of (Event.Exit run exit is_listed) = exit_words run exit is_listed
+words_of Event.Pass = codes "pass" ∷ []
+words_of (Event.Confirm client target) = confirm_words client target
+words_of (Event.Refused line cause) = refused_words line cause
+words_of (Event.Start run req slot reg kind attempt) = start_words run req slot reg kind attempt
+words_of (Event.Reply req answer) = reply_words req answer
+
+-- words, a space before each
+abbrev pub spaced : List (List ℕ) → List ℕ
+spaced words = flat_map (λ (word : List ℕ). codes " " ++ word) words
+
+-- the words of parameters, and those of own options
+abbrev pub parameters_text : List Parameter → List ℕ
+parameters_text parameters = spaced (map parameter_word parameters)
+
+abbrev pub own_text : List Pair → List ℕ
+own_text options = spaced (map own_word options)
+
+-- the line of an entry, without its line feed
+abbrev pub line_of : Entry → List ℕ
+line_of e = decimal e.moment ++ spaced (words_of e.event)
