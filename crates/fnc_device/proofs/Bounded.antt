@@ -13,18 +13,19 @@ use Rattle.fnc_journal.specs.declared.entry.Kind.{Kind}
 use Rattle.fnc_journal.specs.declared.names.Pair.{Pair}
 use Rattle.fnc_hosts.specs.Hosts.{host_list, host_map}
 use Rattle.fnc_hosts.specs.Checks.{check_kind}
+use Rattle.fnc_journal.specs.Bounds.{IsBounded, is_allowed, is_base, is_cap, is_host, is_host_pair, is_option_value, is_priority, is_time, is_value_byte}
 use Rattle.fnc_device.specs.declared.allowance.Allowances.{Allowances}
 use Rattle.fnc_device.specs.declared.fault.DefineFault.{DefineFault}
 use Rattle.fnc_device.specs.declared.nodes.Nodes.{Nodes}
 use Rattle.fnc_device.specs.declared.schedule.Schedule.{Schedule}
 use Rattle.fnc_device.specs.Steps.{◌>>=◌, Gives}
-use Rattle.fnc_device.specs.Options.{is_value_byte, is_option, is_option_value, right_options, value_of, own_options}
+use Rattle.fnc_device.specs.Options.{is_option, right_options, value_of, own_options}
 use Rattle.fnc_device.specs.Nodes.{hosts_of, map_of, written_check, nodes, argument}
 use Rattle.fnc_device.specs.Times.{time}
 use Rattle.fnc_device.specs.Schedules.{base_of, limit_of, priority_of, schedule}
 use Rattle.fnc_device.specs.Allowances.{allowed, allowances}
 use Rattle.fnc_device.specs.Definitions.{all_given, define}
-use Rattle.fnc_device.specs.Bounds.{is_host, is_host_pair, is_cap, is_priority, is_time, is_base, is_allowed, IsBounded, IsFitDescription}
+use Rattle.fnc_device.specs.Bounds.{IsFitDescription}
 use Rattle.fnc_device.proofs.Inversion.{bind_ok, same_Ok, or_fault_is}
 use Rattle.fnc_device.proofs.HostBounds.{hosts_are, pairs_are}
 use Rattle.fnc_device.proofs.OptionBounds.{options_are, value_is, own_are, own_few, carrier_is}

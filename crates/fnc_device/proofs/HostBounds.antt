@@ -12,8 +12,7 @@ use Rattle.fnc_text.proofs.DigitLemmas.{list_all-take_while}
 use Rattle.fnc_hosts.specs.declared.hosts.HostFault.{HostFault}
 use Rattle.fnc_hosts.specs.Entries.{Entry, entries, separates_list, separates_map}
 use Rattle.fnc_hosts.specs.Hosts.{each_entry, together, host, host_list, host_pair, host_map, named, is_colon}
-use Rattle.fnc_device.specs.Options.{is_value_byte}
-use Rattle.fnc_device.specs.Bounds.{is_entry_byte, is_host_byte, is_node_byte, is_text, is_host, is_host_pair}
+use Rattle.fnc_journal.specs.Bounds.{is_entry_byte, is_host, is_host_byte, is_host_pair, is_node_byte, is_text, is_value_byte}
 use Rattle.fnc_device.proofs.Inversion.{guard_ok, same_Ok, list_all-each}
 use Rattle.fnc_device.proofs.EntryBounds.{IsEntry, entries_are, entries-some, together_are}
 

@@ -15,14 +15,14 @@ use Rattle.fnc_text.specs.declared.duration.DurationFault.{DurationFault}
 use Rattle.fnc_text.specs.Digits.{digits_value, number}
 use Rattle.fnc_text.specs.Durations.{after_digits, unit, counted, duration}
 use Rattle.fnc_hosts.specs.Hosts.{is_colon, host_map}
+use Rattle.fnc_journal.specs.Bounds.{is_action_word, is_allowed, is_base, is_cap, is_delay, is_host_pair, is_node, is_option_value, is_priority, is_time, is_value_byte}
 use Rattle.fnc_device.specs.declared.fault.DefineFault.{DefineFault}
 use Rattle.fnc_device.specs.Steps.{◌>>=◌}
-use Rattle.fnc_device.specs.Options.{is_value_byte, is_option, is_option_value, suits, action_option, value_of}
+use Rattle.fnc_device.specs.Options.{is_option, suits, action_option, value_of}
 use Rattle.fnc_device.specs.Nodes.{or_fault}
 use Rattle.fnc_device.specs.Times.{or_bad, time_of}
 use Rattle.fnc_device.specs.Schedules.{bad_base, delay, delays, base_of, counted_limit, limit_of, signed, priority_of}
 use Rattle.fnc_device.specs.Allowances.{timeout_option, retries_option, some_time, timeout_of, some_tries, retries_of, word, allowed}
-use Rattle.fnc_device.specs.Bounds.{is_node, is_host_pair, is_cap, is_priority, is_time, is_delay, is_base, is_action_word, is_allowed}
 use Rattle.fnc_device.proofs.Inversion.{bind_ok, guard_ok, test_ok, same_Ok, or_fault_is}
 use Rattle.fnc_device.proofs.HostBounds.{pairs_are}
 use Rattle.fnc_device.proofs.OptionBounds.{value_is}

@@ -5,11 +5,11 @@ use Rattle.std.specs.List.{list_all, ends_with}
 use Rattle.std.proofs.lemmas.Bool.{and_parts, and_from, ltb-false}
 use Rattle.std.proofs.lemmas.Slice.Eq.{bytes_eq-Decides}
 use Rattle.fnc_journal.specs.declared.names.Pair.{Pair}
+use Rattle.fnc_journal.specs.Bounds.{is_carrier, is_option_name, is_option_value, is_own, is_own_option}
 use Rattle.fnc_device.specs.declared.fault.DefineFault.{DefineFault}
 use Rattle.fnc_device.specs.Steps.{◌>>=◌}
-use Rattle.fnc_device.specs.Options.{is_option, is_option_name, is_option_value, is_own, suits, few, well_formed, distinct_after, right_options, value_of, own_options}
+use Rattle.fnc_device.specs.Options.{is_option, suits, few, well_formed, distinct_after, right_options, value_of, own_options}
 use Rattle.fnc_device.specs.Nodes.{argument_of, argument}
-use Rattle.fnc_device.specs.Bounds.{is_carrier, is_own_option}
 use Rattle.fnc_device.proofs.Inversion.{bind_ok, guard_ok, test_ok}
 
 -- options that passed are well formed

@@ -3,30 +3,10 @@ use Rattle.std.specs.Prelude.{ℕ, List, [], ◌∷◌, ◌++◌, Bool, true, fa
 use Rattle.std.specs.List.{list_all, list_any, starts_with, ends_with}
 use Rattle.fnc_journal.specs.declared.entry.Kind.{Kind}
 use Rattle.fnc_journal.specs.declared.names.Pair.{Pair}
+use Rattle.fnc_journal.specs.Bounds.{is_option_name, is_option_value, is_own}
 use Rattle.fnc_journal.specs.Line.{kind_word}
 use Rattle.fnc_device.specs.declared.fault.DefineFault.{DefineFault}
 use Rattle.fnc_device.specs.Steps.{◌>>=◌}
-
--- a byte that may stand in a name: no control byte, no space, no equals sign
-abbrev pub is_name_byte : ℕ → Bool
-is_name_byte b = nat_le 0x21 b && not (b == 0x7F) && not (b == 61)
-
--- a name of 1 to 64 such bytes that does not begin with `#`
-abbrev pub is_option_name : List ℕ → Bool
-is_option_name [] = false
-is_option_name (b ∷ bs) = not (b == 35) && nat_le (length (b ∷ bs)) 64 && list_all is_name_byte (b ∷ bs)
-
--- a byte that may stand in a value: no control byte
-abbrev pub is_value_byte : ℕ → Bool
-is_value_byte b = nat_le 0x20 b && not (b == 0x7F)
-
--- a value of at most 4096 such bytes
-abbrev pub is_option_value : List ℕ → Bool
-is_option_value value = nat_le (length value) 4096 && list_all is_value_byte value
-
--- whether an option is passed on to the agent: all are but those of the fencer itself
-abbrev pub is_own : List ℕ → Bool
-is_own name = not (starts_with nat_eq name (codes "pcmk_")) && not (bytes_eq name (codes "priority"))
 
 -- the options that say what an action is allowed
 abbrev pub action_option : Kind → List ℕ

@@ -1,7 +1,6 @@
 // What each action of a device is allowed.
 
 ghost use Rattle.std.specs.Prelude.{◌≡◌, IfOk, codes};
-ghost use Rattle.fnc_journal.specs.Line.{kind_word};
 ghost use Rattle.fnc_text.specs.Durations.{duration};
 ghost use Rattle.fnc_text.specs.Digits.{number};
 ghost use Rattle.fnc_device.specs.Options.{action_option, value_of};
@@ -102,20 +101,7 @@ fn word(alloc: Global, options: &[Pair], kind: Kind) -> Result<Text, NoMemory>
 {
     match value_of(options, action_option(kind)) {
         Some(word) => Text::new(alloc, word),
-        None => Text::new(alloc, kind_word(kind)),
-    }
-}
-
-/// The word of an action in the Fence Agent API.
-fn kind_word(kind: Kind) -> &'static str
-    ensures { result.now ≡ kind_word kind }
-{
-    match kind {
-        Kind::On => "on",
-        Kind::Off => "off",
-        Kind::Reboot => "reboot",
-        Kind::List => "list",
-        Kind::Status => "status",
+        None => Text::new(alloc, kind.word()),
     }
 }
 

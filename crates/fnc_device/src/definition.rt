@@ -1,8 +1,9 @@
 // What the options of a device define.
 
 ghost use Rattle.std.specs.Prelude.{◌≡◌, IfOk};
+ghost use Rattle.fnc_journal.specs.Bounds.{IsBounded};
 ghost use Rattle.fnc_device.specs.Definitions.{carries_port, is_missing, all_given, define};
-ghost use Rattle.fnc_device.specs.Bounds.{IsBounded, IsFitDescription};
+ghost use Rattle.fnc_device.specs.Bounds.{IsFitDescription};
 ghost use Rattle.fnc_device.specs.Steps.{Gives};
 
 use crate::allowance::read_allowances;

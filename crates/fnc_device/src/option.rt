@@ -3,7 +3,8 @@
 ghost use Rattle.std.specs.Prelude.{◌≡◌, [], IfOk};
 ghost use Rattle.std.specs.List.{list_all};
 ghost use Rattle.std.specs.Option.{option_copied};
-ghost use Rattle.fnc_device.specs.Options.{is_name_byte, is_value_byte, is_option_name, is_option_value, is_own, is_action_option, is_argument, suits, is_option, few, well_formed, distinct_after, right_options, value_of, own_options};
+ghost use Rattle.fnc_journal.specs.Bounds.{is_option_byte, is_option_name, is_option_value, is_own, is_value_byte};
+ghost use Rattle.fnc_device.specs.Options.{is_action_option, is_argument, suits, is_option, few, well_formed, distinct_after, right_options, value_of, own_options};
 ghost use Rattle.fnc_device.specs.Steps.{Gives};
 
 use crate::fault::DefineFault;
@@ -88,13 +89,13 @@ pub fn is_option_name(name: &str) -> bool
 }
 
 fn are_name_bytes(text: &[u8]) -> bool
-    ensures { result ≡ list_all is_name_byte text.now }
+    ensures { result ≡ list_all is_option_byte text.now }
 {
     text.iter().all(|b| is_name_byte(*b))
 }
 
 fn is_name_byte(byte: u8) -> bool
-    ensures { result ≡ is_name_byte byte }
+    ensures { result ≡ is_option_byte byte }
 {
     byte >= 0x21 && byte != 0x7F && byte != b'='
 }

@@ -5,7 +5,7 @@ use Rattle.std.proofs.lemmas.Bool.{false≢true}
 use Rattle.std.proofs.lemmas.Slice.Eq.{bytes_eq-Decides}
 use Rattle.fnc_journal.specs.declared.entry.Entry.{Entry}
 use Rattle.fnc_journal_text.specs.declared.fault.EntryFault.{EntryFault}
-use Rattle.fnc_journal_text.specs.Bounds.{is_within}
+use Rattle.fnc_journal_text.specs.Within.{is_within}
 use Rattle.fnc_journal_text.specs.Cuts.{words}
 use Rattle.fnc_journal_text.specs.Entries.{entry_of}
 use Rattle.fnc_journal_text.specs.Reads.{Fails}

@@ -12,7 +12,8 @@ use Rattle.fnc_journal.specs.declared.entry.LevelTarget.{LevelTarget}
 use Rattle.fnc_journal.specs.declared.entry.Reg.{Reg}
 use Rattle.fnc_journal.specs.Line.{escaped}
 use Rattle.fnc_text.specs.Names.{is_name}
-use Rattle.fnc_journal_text.specs.Bounds as Bounds
+use Rattle.fnc_journal.specs.Bounds as Bounds
+use Rattle.fnc_journal_text.specs.Within as Within
 use Rattle.fnc_journal_text.specs.Cuts.{nth, words}
 use Rattle.fnc_journal_text.specs.Entries.{entry_of, event_of, definition_of}
 use Rattle.fnc_journal_text.specs.Spelled as Spelled
@@ -48,7 +49,7 @@ u8-part n h = number-part 32 n refl (omega (arith, h))
 name-part : (name : List ℕ) → is_name name ≡ true → Typed.are_characters name ≡ true → is_part 32 (escaped name) ≡ true
 name-part name b t = text-part 32 name refl (name-has name b) t
 
-target-has : (t : LevelTarget) → Bounds.is_target t ≡ true → has_byte (Spelled.target_text t) ≡ true
+target-has : (t : LevelTarget) → Within.is_target t ≡ true → has_byte (Spelled.target_text t) ≡ true
 target-has (LevelTarget.Name name) b = name-has name b
 target-has (LevelTarget.Pattern pattern) b = some-has pattern (and_parts (nat_lt 0 (length pattern)) (nat_le (length pattern) 255) b).0
 
@@ -56,10 +57,10 @@ target-characters : (t : LevelTarget) → Typed.is_target t ≡ true → Typed.a
 target-characters (LevelTarget.Name name) t = t
 target-characters (LevelTarget.Pattern pattern) t = t
 
-targeted-part : (t : LevelTarget) → Bounds.is_target t ≡ true → Typed.is_target t ≡ true → is_part 32 (escaped (Spelled.target_text t)) ≡ true
+targeted-part : (t : LevelTarget) → Within.is_target t ≡ true → Typed.is_target t ≡ true → is_part 32 (escaped (Spelled.target_text t)) ≡ true
 targeted-part t b k = text-part 32 (Spelled.target_text t) refl (target-has t b) (target-characters t k)
 
-index-fits : (index : ℕ) → Bounds.is_index index ≡ true → index < 2 ^ 8
+index-fits : (index : ℕ) → Within.is_index index ≡ true → index < 2 ^ 8
 index-fits index b = let small : index ≤ 9 = leb-true index 9 (and_parts (nat_lt 0 index) (nat_le index 9) b).1 in omega (arith, small)
 
 -- a definition
@@ -67,7 +68,7 @@ record AreNodes (d : Definition) : Type 0 where
   hosts : list_all Bounds.is_host d.hosts ≡ true
   argument : Bounds.is_carrier d.argument ≡ true
 
-are_nodes : (d : Definition) → Bounds.are_nodes d ≡ true → AreNodes d
+are_nodes : (d : Definition) → Within.are_nodes d ≡ true → AreNodes d
 are_nodes d b =
     let five = and_parts _ (Bounds.is_carrier d.argument) b in
     let four = and_parts _ (list_all Bounds.is_host_pair d.map) five.0 in
@@ -82,7 +83,7 @@ record AreLimits (d : Definition) : Type 0 where
   max : Bounds.is_time d.max ≡ true
   keep : Bounds.is_time d.keep ≡ true
 
-are_limits : (d : Definition) → Bounds.are_limits d ≡ true → AreLimits d
+are_limits : (d : Definition) → Within.are_limits d ≡ true → AreLimits d
 are_limits d b =
     let six = and_parts _ (list_all Bounds.is_own_option d.own) b in
     let five = and_parts _ (nat_le (length d.own) 32) six.0 in
@@ -99,7 +100,7 @@ record AreAllowed (d : Definition) : Type 0 where
   list : Bounds.is_allowed d.list ≡ true
   status : Bounds.is_allowed d.status ≡ true
 
-are_allowed : (d : Definition) → Bounds.are_allowed d ≡ true → AreAllowed d
+are_allowed : (d : Definition) → Within.are_allowed d ≡ true → AreAllowed d
 are_allowed d b =
     let four = and_parts _ (Bounds.is_allowed d.status) b in
     let three = and_parts _ (Bounds.is_allowed d.list) four.0 in
@@ -112,10 +113,10 @@ record AreBounds (d : Definition) : Type 0 where
   limits : AreLimits d
   allowed : AreAllowed d
 
-are_bounds : (d : Definition) → Bounds.is_bounded d ≡ true → AreBounds d
+are_bounds : (d : Definition) → Within.is_bounded d ≡ true → AreBounds d
 are_bounds d b =
-    let two = and_parts _ (Bounds.are_allowed d) b in
-    let one = and_parts (Bounds.are_nodes d) (Bounds.are_limits d) two.0 in
+    let two = and_parts _ (Within.are_allowed d) b in
+    let one = and_parts (Within.are_nodes d) (Within.are_limits d) two.0 in
     record { nodes = are_nodes d one.0; limits = are_limits d one.1; allowed = are_allowed d two.1 }
 
 actions-lacking : (a : Actions) → lacks 32 (Spelled.actions_text a) ≡ true
@@ -141,10 +142,10 @@ record IsBoundedDevice (r : Registration) : Type 0 where
   agent : is_name r.agent ≡ true
   definition : AreBounds r.definition
 
-is_bounded : (r : Registration) → Bounds.is_device r ≡ true → IsBoundedDevice r
+is_bounded : (r : Registration) → Within.is_device r ≡ true → IsBoundedDevice r
 is_bounded r b =
-    let two = and_parts _ (Bounds.is_bounded r.definition) b in
-    let one = and_parts (is_name r.name) (Bounds.is_agent_name r.agent) two.0 in
+    let two = and_parts _ (Within.is_bounded r.definition) b in
+    let one = and_parts (is_name r.name) (Within.is_agent_name r.agent) two.0 in
     record { name = one.0; agent = (and_parts (is_name r.agent) _ one.1).0; definition = are_bounds r.definition two.1 }
 
 device-part : (reg : Reg) (r : Registration) → reg.0 < 2 ^ 32 → IsBoundedDevice r → Typed.IsDevice r → AreApart (Spelled.device_words reg r)
@@ -206,7 +207,7 @@ record IsBack (m : List ℕ) (event : Event) : Type 0 where
   apart : AreApart (words_of event)
   read : event_of (nth (m ∷ words_of event) 1) (m ∷ words_of event) ≡ Ok event
 
-event-back : (m : List ℕ) (event : Event) → Typed.IsEvent event → Bounds.is_event event ≡ true → IsBack m event
+event-back : (m : List ℕ) (event : Event) → Typed.IsEvent event → Within.is_event event ≡ true → IsBack m event
 event-back m (Event.Device reg r) t b =
     let bounds = is_bounded r b in
     record {
@@ -226,7 +227,7 @@ event-back m (Event.Level target index devices) t b =
     let four = and_parts _ (list_all is_name devices) b in
     let three = and_parts _ (nat_le (length devices) 8) four.0 in
     let two = and_parts _ (nat_lt 0 (length devices)) three.0 in
-    let one = and_parts (Bounds.is_index index) (Bounds.is_target target) two.0 in
+    let one = and_parts (Within.is_index index) (Within.is_target target) two.0 in
     let fits = index-fits index one.0 in
     record {
       apart =
@@ -241,14 +242,14 @@ event-back m (Event.Level target index devices) t b =
           (step _ devices _ _ (names-back devices four.1 t.1) refl));
     }
 event-back m (Event.LevelGone target index) t b =
-    let one = and_parts (Bounds.is_index index) (Bounds.is_target target) b in
+    let one = and_parts (Within.is_index index) (Within.is_target target) b in
     let fits = index-fits index one.0 in
     record {
       apart = with refl (with (u8-part index fits) (with (target-part target) (with (targeted-part target one.1 t) tt)));
       read = step _ index _ _ (u8-back index fits) (step _ target _ _ (target-back target t) refl);
     }
 event-back m (Event.Agent name d) t b =
-    let one = and_parts (Bounds.is_agent_name name) (Bounds.is_described d) b in
+    let one = and_parts (Within.is_agent_name name) (Within.is_described d) b in
     let carrier = (and_parts _ (Bounds.is_carrier d.target) one.1).1 in
     record {
       apart =
@@ -334,7 +335,7 @@ event-back m (Event.Reply req answer) t b =
     }
 
 -- what the line of an entry is read as
-pub entry-back : (e : Entry) → Typed.IsTyped e → Bounds.is_within e ≡ true → entry_of (words (line_of e)) ≡ Ok e
+pub entry-back : (e : Entry) → Typed.IsTyped e → Within.is_within e ≡ true → entry_of (words (line_of e)) ≡ Ok e
 entry-back e t b =
     let back = event-back (decimal e.moment) e.event t.event b in
     ap entry_of (words-back (decimal e.moment) (words_of e.event) (number-part 32 e.moment refl t.moment) (told_apart (words_of e.event) back.apart))

@@ -10,7 +10,7 @@ use Rattle.fnc_journal.specs.declared.definition.Parameter.{Parameter}
 use Rattle.fnc_journal.specs.declared.names.Pair.{Pair}
 use Rattle.fnc_journal.specs.Line.{escaped}
 use Rattle.fnc_text.specs.Names.{is_name}
-use Rattle.fnc_journal_text.specs.Bounds as Bounds
+use Rattle.fnc_journal.specs.Bounds as Bounds
 use Rattle.fnc_journal_text.specs.Cuts.{front, after, parts}
 use Rattle.fnc_journal_text.specs.Reads.{each}
 use Rattle.fnc_journal_text.specs.Spelled as Spelled

@@ -16,7 +16,7 @@ use Rattle.fnc_journal.specs.declared.entry.Scope.{Scope}
 use Rattle.fnc_journal.specs.Causes.{word_of}
 use Rattle.fnc_journal.specs.Line.{escaped, kind_word}
 use Rattle.fnc_journal_text.specs.declared.fault.EntryFault.{EntryFault}
-use Rattle.fnc_journal_text.specs.Bounds as Bounds
+use Rattle.fnc_journal.specs.Bounds as Bounds
 use Rattle.fnc_journal_text.specs.Reads.{◌>>=◌, each, or_malformed}
 use Rattle.fnc_journal_text.specs.Spelled as Spelled
 use Rattle.fnc_journal_text.specs.Typed as Typed

@@ -6,5 +6,5 @@ pub mod Reads
 pub mod Cuts
 pub mod Values
 pub mod Entries
-pub mod Bounds
+pub mod Within
 pub mod Typed

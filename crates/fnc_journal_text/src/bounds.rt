@@ -3,7 +3,8 @@
 ghost use Rattle.std.specs.Prelude.{◌≡◌, ◌==◌, nat_eq, codes};
 ghost use Rattle.std.specs.List.{ends_with, list_all, list_any};
 ghost use Rattle.fnc_text.specs.Names as Names;
-ghost use Rattle.fnc_journal_text.specs.Bounds as Bounds;
+ghost use Rattle.fnc_journal.specs.Bounds as Bounds;
+ghost use Rattle.fnc_journal_text.specs.Within as Within;
 
 use fnc_journal::{
     Allowed, Base, Definition, Delay, Description, Entry, Event, LevelTarget, Pair, Parameter,
@@ -16,7 +17,7 @@ const DAY: u64 = 86_400_000;
 
 /// Whether an entry is within the bounds.
 pub(crate) fn is_within(entry: &Entry) -> bool
-    ensures { result ≡ Bounds.is_within entry.now }
+    ensures { result ≡ Within.is_within entry.now }
 {
     match &entry.event {
         Event::Device { registration, .. } => is_device(registration),
@@ -251,7 +252,7 @@ fn are_names(names: &[Text]) -> bool
 }
 
 fn are_nodes(definition: &Definition) -> bool
-    ensures { result ≡ Bounds.are_nodes definition.now }
+    ensures { result ≡ Within.are_nodes definition.now }
 {
     let hosts = definition.hosts.as_slice();
     let map = definition.map.as_slice();
@@ -264,7 +265,7 @@ fn are_nodes(definition: &Definition) -> bool
 }
 
 fn are_limits(definition: &Definition) -> bool
-    ensures { result ≡ Bounds.are_limits definition.now }
+    ensures { result ≡ Within.are_limits definition.now }
 {
     let own = definition.own.as_slice();
     is_cap(definition.cap)
@@ -277,7 +278,7 @@ fn are_limits(definition: &Definition) -> bool
 }
 
 fn are_allowed(definition: &Definition) -> bool
-    ensures { result ≡ Bounds.are_allowed definition.now }
+    ensures { result ≡ Within.are_allowed definition.now }
 {
     is_allowed(&definition.on)
         && is_allowed(&definition.off)
@@ -287,7 +288,7 @@ fn are_allowed(definition: &Definition) -> bool
 }
 
 fn is_device(registration: &Registration) -> bool
-    ensures { result ≡ Bounds.is_device registration.now }
+    ensures { result ≡ Within.is_device registration.now }
 {
     is_name(registration.name.as_str())
         && is_agent_name(registration.agent.as_str())
@@ -295,7 +296,7 @@ fn is_device(registration: &Registration) -> bool
 }
 
 fn is_bounded(definition: &Definition) -> bool
-    ensures { result ≡ Bounds.is_bounded definition.now }
+    ensures { result ≡ Within.is_bounded definition.now }
 {
     are_nodes(definition) && are_limits(definition) && are_allowed(definition)
 }
@@ -307,25 +308,25 @@ fn has_equals(text: &[u8]) -> bool
 }
 
 fn is_agent_name(name: &str) -> bool
-    ensures { result ≡ Bounds.is_agent_name name.now }
+    ensures { result ≡ Within.is_agent_name name.now }
 {
     is_name(name) && !has_equals(name.as_bytes())
 }
 
 fn is_parameter(parameter: &Parameter) -> bool
-    ensures { result ≡ Bounds.is_parameter parameter.now }
+    ensures { result ≡ Within.is_parameter parameter.now }
 {
     is_option_name(parameter.name.as_str().as_bytes())
 }
 
 fn are_parameters(parameters: &[Parameter]) -> bool
-    ensures { result ≡ list_all Bounds.is_parameter parameters.now }
+    ensures { result ≡ list_all Within.is_parameter parameters.now }
 {
     parameters.iter().all(|p| is_parameter(p))
 }
 
 fn is_described(description: &Description) -> bool
-    ensures { result ≡ Bounds.is_described description.now }
+    ensures { result ≡ Within.is_described description.now }
 {
     let parameters = description.parameters.as_slice();
     description.actions.off
@@ -335,7 +336,7 @@ fn is_described(description: &Description) -> bool
 }
 
 fn is_target(target: &LevelTarget) -> bool
-    ensures { result ≡ Bounds.is_target target.now }
+    ensures { result ≡ Within.is_target target.now }
 {
     match target {
         LevelTarget::Name(name) => is_name(name.as_str()),
@@ -346,7 +347,7 @@ fn is_target(target: &LevelTarget) -> bool
 }
 
 fn is_index(index: u8) -> bool
-    ensures { result ≡ Bounds.is_index index }
+    ensures { result ≡ Within.is_index index }
 {
     index > 0 && index <= 9
 }

@@ -10,7 +10,7 @@ ghost use Rattle.fnc_journal_text.specs.Values as Values;
 use crate::cuts::after;
 use crate::fault::EntryFault;
 use crate::values::{read_u8, read_u32};
-use crate::words::{check_word, kind_word, phase_word};
+use crate::words::{check_word, phase_word};
 use fnc_journal::{Answer, Cause, Exit, HostCheck, Kind, Phase, Scope};
 
 const KINDS: [Kind; 5] = [Kind::On, Kind::Off, Kind::Reboot, Kind::List, Kind::Status];
@@ -73,7 +73,7 @@ const CAUSES: [Cause; 42] = [
 fn find_kind<'a>(kinds: &'a [Kind], word: &[u8]) -> Option<&'a Kind>
     ensures { option_copied result ≡ find (λ x. bytes_eq word.now (kind_word x)) kinds.now }
 {
-    kinds.iter().find(|x| word == kind_word(**x).as_bytes())
+    kinds.iter().find(|x| word == x.word().as_bytes())
 }
 
 /// An action by its word.

@@ -11,8 +11,7 @@ use crate::definition::print_device;
 use crate::parts::{Part, print_parts};
 use crate::printing::{Piece, print_pieces};
 use crate::words::{
-    answer_piece, answer_word, exit_piece, flag_word, kind_word, phase_word, target_text,
-    target_word,
+    answer_piece, answer_word, exit_piece, flag_word, phase_word, target_text, target_word,
 };
 use fnc_journal::{
     Answer, Cause, Description, Event, Exit, Kind, LevelTarget, Names, Reg, Req, Run, Slot, Text,
@@ -57,7 +56,7 @@ pub(crate) fn print_event<K: Sink>(event: &Event, sink: &mut K) -> Result<(), Si
                 Part::Word(" "),
                 Part::Name(client.as_str()),
                 Part::Word(" "),
-                Part::Word(kind_word(*kind)),
+                Part::Word(kind.word()),
                 Part::Word(" "),
                 Part::Name(target.as_str()),
                 Part::Word(" "),
@@ -251,7 +250,7 @@ fn print_start<K: Sink>(
             Piece::Word(" "),
             Piece::Number(u64::from(reg.0)),
             Piece::Word(" "),
-            Piece::Word(kind_word(kind)),
+            Piece::Word(kind.word()),
             Piece::Word(" "),
             Piece::Number(u64::from(attempt)),
         ],

@@ -2,7 +2,7 @@
 
 ghost use Rattle.std.specs.Prelude.{◌≡◌, IfOk, IsTrue, Ok};
 ghost use Rattle.fnc_journal.specs.declared.entry.Entry.{Entry};
-ghost use Rattle.fnc_journal_text.specs.Bounds.{is_within};
+ghost use Rattle.fnc_journal_text.specs.Within.{is_within};
 ghost use Rattle.fnc_journal_text.specs.Cuts.{words};
 ghost use Rattle.fnc_journal_text.specs.Entries as Entries;
 ghost use Rattle.fnc_journal_text.specs.Reads.{Gives};

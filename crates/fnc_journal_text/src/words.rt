@@ -1,31 +1,17 @@
 // The words that stand for cases.
 
 ghost use Rattle.std.specs.Prelude.{◌≡◌, ◌&&◌, ◌||◌, [], if◌then◌else◌, codes};
-ghost use Rattle.fnc_journal.specs.Line as Line;
 ghost use Rattle.fnc_journal_text.specs.Printed.{piece_text, pieces_text};
 ghost use Rattle.fnc_journal_text.specs.Spelled as Spelled;
 
 use crate::printing::Piece;
-use fnc_journal::{Actions, Answer, Exit, HostCheck, Kind, LevelTarget, Phase, Scope, Text};
+use fnc_journal::{Actions, Answer, Exit, HostCheck, LevelTarget, Phase, Scope, Text};
 
 /// The word of yes or no.
 pub(crate) fn flag_word(flag: bool) -> &'static str
     ensures { result.now ≡ Spelled.flag_text flag }
 {
     if flag { "1" } else { "0" }
-}
-
-/// The word of an action.
-pub(crate) fn kind_word(kind: Kind) -> &'static str
-    ensures { result.now ≡ Line.kind_word kind }
-{
-    match kind {
-        Kind::On => "on",
-        Kind::Off => "off",
-        Kind::Reboot => "reboot",
-        Kind::List => "list",
-        Kind::Status => "status",
-    }
 }
 
 /// The word of a phase.

@@ -1,0 +1,69 @@
+-- What a journal's text can hold: names as they are read, and of a device only what options can define, each text and each
+-- number by itself.
+use Rattle.std.specs.Prelude.{ℕ, ℤ, pos, negsuc, List, [], ◌∷◌, Bool, true, false, not, ◌&&◌, ◌||◌, ◌==◌, nat_eq, nat_lt, nat_le, length, Option, Some, None, bytes_eq, codes}
+use Rattle.std.specs.List.{list_all, list_any, starts_with, ends_with}
+use Rattle.fnc_journal.specs.declared.definition.Definition.{Definition}
+use Rattle.fnc_journal.specs.declared.definition.Description.{Description}
+use Rattle.fnc_journal.specs.declared.definition.Parameter.{Parameter}
+use Rattle.fnc_journal.specs.declared.definition.Registration.{Registration}
+use Rattle.fnc_journal.specs.declared.entry.Entry.{Entry}
+use Rattle.fnc_journal.specs.declared.entry.Event.{Event}
+use Rattle.fnc_journal.specs.declared.entry.LevelTarget.{LevelTarget}
+use Rattle.fnc_journal.specs.Bounds.{is_allowed, is_base, is_cap, is_carrier, is_host, is_host_pair, is_option_name, is_own_option, is_priority, is_time}
+use Rattle.fnc_text.specs.Names.{is_name}
+
+-- what a definition says of nodes
+abbrev pub are_nodes : Definition → Bool
+are_nodes d =
+    d.actions.off && nat_le (length d.hosts) 256 && list_all is_host d.hosts && nat_le (length d.map) 256 && list_all is_host_pair d.map && is_carrier d.argument
+
+-- its limits, and its own options
+abbrev pub are_limits : Definition → Bool
+are_limits d = is_cap d.cap && is_priority d.priority && is_base d.base && is_time d.max && is_time d.keep && nat_le (length d.own) 32 && list_all is_own_option d.own
+
+-- what it allows each action
+abbrev pub are_allowed : Definition → Bool
+are_allowed d = is_allowed d.on && is_allowed d.off && is_allowed d.reboot && is_allowed d.list && is_allowed d.status
+
+-- the bounds of a definition
+abbrev pub is_bounded : Definition → Bool
+is_bounded d = are_nodes d && are_limits d && are_allowed d
+
+-- the name of an agent has no equals sign
+abbrev pub is_agent_name : List ℕ → Bool
+is_agent_name name = is_name name && not (list_any (λ b. b == 61) name)
+
+-- the bounds of a device
+abbrev pub is_device : Registration → Bool
+is_device r = is_name r.name && is_agent_name r.agent && is_bounded r.definition
+
+abbrev pub is_parameter : Parameter → Bool
+is_parameter p = is_option_name p.name
+
+-- the bounds of what is told of an agent
+abbrev pub is_described : Description → Bool
+is_described d = d.actions.off && nat_le (length d.parameters) 64 && list_all is_parameter d.parameters && is_carrier d.target
+
+-- what a level is for: a name, or a pattern of 1 to 255 bytes
+abbrev pub is_target : LevelTarget → Bool
+is_target (LevelTarget.Name name) = is_name name
+is_target (LevelTarget.Pattern pattern) = nat_lt 0 (length pattern) && nat_le (length pattern) 255
+
+-- the index of a level
+abbrev pub is_index : ℕ → Bool
+is_index index = nat_lt 0 index && nat_le index 9
+
+-- the bounds of an event; every other number has the range of its type alone
+abbrev pub is_event : Event → Bool
+is_event (Event.Device reg registration) = is_device registration
+is_event (Event.Level target index devices) =
+    is_index index && is_target target && nat_lt 0 (length devices) && nat_le (length devices) 8 && list_all is_name devices
+is_event (Event.LevelGone target index) = is_index index && is_target target
+is_event (Event.Agent name description) = is_agent_name name && is_described description
+is_event (Event.Ask req lead client kind target total coin scope) = is_name client && is_name target
+is_event (Event.Confirm client target) = is_name client && is_name target
+is_event _ = true
+
+-- the bounds of an entry
+abbrev pub is_within : Entry → Bool
+is_within e = is_event e.event
