@@ -1,0 +1,12 @@
+use Rattle.std.proofs.Common.{◌≡◌}
+use Rattle.fnc_journal.specs.Prefix.{prefix}
+use Rattle.fnc_journal.specs.Acts.{acts, act_here}
+use Rattle.fnc_judge.specs.declared.seen.Seen.{Seen}
+use Rattle.fnc_judge.specs.Seen.{seen_of, seen_with}
+use Rattle.fnc_judge.proofs.Prefixed.{prefix-most}
+use Rattle.fnc_judge.proofs.Looks.{seen-more, failed-most}
+use Rattle.fnc_judge.proofs.seen.looked_at.Given as goal
+
+-- what the entries so far say
+abbrev pub invariant-loop-i : goal.invariant-loop-i
+invariant-loop-i l = l.found ≡ seen_of l.task l.over (acts l.req (prefix l.i l.past))

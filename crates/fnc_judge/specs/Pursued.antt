@@ -1,0 +1,13 @@
+-- An operation as the judge keeps it: the number of a request that leads itself, and its entry.
+use Rattle.std.specs.Prelude.{ℕ}
+use Rattle.fnc_journal.specs.Found.{Asked}
+use Rattle.fnc_journal.specs.Slots as Slots
+
+-- the request of a number
+pub record Pursued : Type 0 where
+  pub req : ℕ
+  pub asked : Asked
+
+-- its operation
+abbrev pub operation : Pursued → Slots.Operation
+operation p = Slots.operation_of p.req p.asked

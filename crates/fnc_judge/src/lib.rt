@@ -1,0 +1,14 @@
+// The judge of journals: the first entry that breaks a rule, and the rule. It searches the journal
+// from its oldest entry on for each thing that a definition speaks of, and takes no memory.
+#![tactic(auto)]
+
+mod found;
+mod gathered;
+mod level;
+mod numbers;
+mod past;
+mod pursued;
+mod registered;
+mod seen;
+mod survey;
+mod task;
