@@ -5,3 +5,4 @@ pub mod Rising
 pub mod Oldest
 pub mod Looks
 pub mod Gatherings
+pub mod Ranks

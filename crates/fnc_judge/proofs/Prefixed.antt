@@ -1,5 +1,5 @@
 -- A prefix is no longer than its number says.
-use Rattle.std.proofs.Common.{ℕ, [], ◌∷◌, ◌≡◌, ◌≤◌, ◌<◌, ◌+◌, ◌==◌, ◌∙◌, Bool, true, false, cond, refl, sym, arith, length, ltb, ltb-true, ltb-false, ne_eqb, le-ltb}
+use Rattle.std.proofs.Common.{ℕ, [], ◌∷◌, ◌≡◌, ◌≤◌, ◌<◌, ◌+◌, ◌==◌, ◌∙◌, Bool, true, false, cond, refl, sym, arith, length, ltb, ltb-true, ltb-false, ne_eqb, le-ltb, None}
 use Rattle.fnc_journal.specs.Found.{entry_at}
 use Rattle.fnc_journal.specs.History.{History}
 use Rattle.fnc_journal.specs.Prefix.{prefix}
@@ -49,3 +49,8 @@ prefix-prefix (e ∷ before) n i l = go (ltb (length before) n) refl (prefix-pre
     go : (b : Bool) → ltb (length before) n ≡ b → prefix i (prefix n before) ≡ prefix i before → prefix i (cond b (e ∷ before) (prefix n before)) ≡ prefix i (e ∷ before)
     go true k ih = refl
     go false k ih = let most : n ≤ length before = ltb-false (length before) n k in ih ∙ sym (rw (le-ltb (length before) i (omega arith)) refl)
+
+-- there is no entry past the end
+pub entry_at-past : (h : History) (n : ℕ) → length h ≤ n → entry_at n h ≡ None
+entry_at-past [] n l = refl
+entry_at-past (e ∷ before) n l = let other : (n == length before) ≡ false = ne_eqb n (length before) (λ p. omega arith) in rw other (entry_at-past before n (omega arith))
