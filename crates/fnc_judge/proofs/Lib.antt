@@ -6,3 +6,4 @@ pub mod Oldest
 pub mod Looks
 pub mod Gatherings
 pub mod Ranks
+pub mod Ordered

@@ -1,5 +1,6 @@
 pub mod Led
 pub mod Indices
+pub mod Keyed
 pub mod Numbers
 pub mod Places
 pub mod Pursued

@@ -1,6 +1,7 @@
 -- An operation as the judge keeps it: the number of a request that leads itself, and its entry.
 use Rattle.std.specs.Prelude.{ℕ}
 use Rattle.fnc_journal.specs.Found.{Asked}
+use Rattle.fnc_journal.specs.Plan as Plan
 use Rattle.fnc_journal.specs.Slots as Slots
 
 -- the request of a number
@@ -11,3 +12,7 @@ pub record Pursued : Type 0 where
 -- its operation
 abbrev pub operation : Pursued → Slots.Operation
 operation p = Slots.operation_of p.req p.asked
+
+-- what it wants
+abbrev pub wanted : Pursued → Plan.Wanted
+wanted p = record { kind = p.asked.kind; target = p.asked.target; begin = p.asked.moment; scope = p.asked.scope }

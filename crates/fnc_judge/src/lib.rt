@@ -2,8 +2,10 @@
 // from its oldest entry on for each thing that a definition speaks of, and takes no memory.
 #![tactic(auto)]
 
+mod candidates;
 mod found;
 mod gathered;
+mod kept;
 mod level;
 mod numbers;
 mod past;

@@ -58,7 +58,8 @@ fn slot_of_run(past: &Past<'_>, req: u32, run: u32) -> Option<Slot>
     found
 }
 
-fn is_success(kind: Kind, exit: Exit) -> bool
+/// Whether an exit is a success.
+pub(crate) fn is_success(kind: Kind, exit: Exit) -> bool
     ensures { result ≡ Exits.is_success kind exit }
 {
     match (kind, exit) {

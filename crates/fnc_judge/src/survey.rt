@@ -21,7 +21,7 @@ use std::marker::Model;
 /// A level that is not lost: its number, the slot at which it stands, and whether it is done.
 #[derive(Drop)]
 pub(crate) struct Kept<'a> {
-    pub index: u32,
+    pub index: u64,
     pub standing: Option<Task<'a>>,
     pub done: bool,
 }
@@ -54,7 +54,7 @@ fn first_at<'a>(
     split: bool,
     kind: Kind,
     before: &Past<'a>,
-    level: u32,
+    level: u64,
     place: usize,
     name: &str,
 ) -> Option<Task<'a>>
@@ -64,7 +64,7 @@ fn first_at<'a>(
     Some(act_task(split, kind, level, place, &device))
 }
 
-fn on_at<'a>(kind: Kind, before: &Past<'a>, level: u32, place: usize, name: &str) -> Option<Task<'a>>
+fn on_at<'a>(kind: Kind, before: &Past<'a>, level: u64, place: usize, name: &str) -> Option<Task<'a>>
     ensures { result ≡ option_and_then (Slots.on_task level place) (placed kind before.now name.now) }
 {
     let device = placed_at(kind, before, name)?;
@@ -77,7 +77,7 @@ fn firsts<'a>(
     moment: u64,
     past: &Past<'_>,
     split: bool,
-    level: u32,
+    level: u64,
     names: &[Text],
 ) -> Gathered<'a>
     ensures { result ≡ Tours.gathered_all (Pursued.operation operation.now) moment (acts operation.now.req past.now) Tours.nothing (firsts_over split operation.now.asked.kind operation.now.asked.before level 0 names.now) }
@@ -103,7 +103,7 @@ fn ons<'a>(
     operation: &Operation<'a>,
     moment: u64,
     past: &Past<'_>,
-    level: u32,
+    level: u64,
     names: &[Text],
 ) -> Gathered<'a>
     ensures { result ≡ Tours.gathered_all (Pursued.operation operation.now) moment (acts operation.now.req past.now) Tours.nothing (ons_over operation.now.asked.kind operation.now.asked.before level 0 names.now) }
@@ -161,7 +161,7 @@ impl<'a> Survey<'a> {
         self,
         over: u128,
         moment: u64,
-        index: u32,
+        index: u64,
         unfit: bool,
         firsts: Gathered<'a>,
         ons: Gathered<'a>,
@@ -188,19 +188,20 @@ impl<'a> Survey<'a> {
         ensures { result ≡ Surveys.surveyed (Pursued.operation operation.now) moment (acts operation.now.req past.now) self.entry (Surveys.rank_over operation.now.asked.kind operation.now.asked.before level.entry) }
     {
         let names = level.devices.as_slice();
+        let index = u64::from(level.index);
         let unfit = has_unfit(operation.kind(), &operation.before(), names);
         let split = is_split(operation.kind(), names);
         let acting = if unfit {
             Gathered::nothing()
         } else {
-            firsts(operation, moment, past, split, level.index, names)
+            firsts(operation, moment, past, split, index, names)
         };
         let after = if unfit || !split {
             Gathered::nothing()
         } else {
-            ons(operation, moment, past, level.index, names)
+            ons(operation, moment, past, index, names)
         };
-        self.with(operation.over(), moment, level.index, unfit, acting, after)
+        self.with(operation.over(), moment, index, unfit, acting, after)
     }
 
     /// With one more level of an operation, if there is one.
@@ -224,7 +225,7 @@ fn kept_after<'a>(
     earlier: Option<Kept<'a>>,
     over: u128,
     moment: u64,
-    index: u32,
+    index: u64,
     unfit: bool,
     firsts: Gathered<'a>,
     ons: Gathered<'a>,
@@ -246,7 +247,7 @@ fn kept_after<'a>(
 fn kept_by<'a>(
     over: u128,
     moment: u64,
-    index: u32,
+    index: u64,
     firsts: Gathered<'a>,
     ons: Gathered<'a>,
 ) -> Kept<'a>

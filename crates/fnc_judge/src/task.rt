@@ -32,7 +32,7 @@ impl<'a> Model for Device<'a> {
 #[derive(Drop)]
 pub(crate) struct Task<'a> {
     pub phase: Phase,
-    pub level: u32,
+    pub level: u64,
     pub place: usize,
     pub reg: u32,
     pub definition: &'a Definition,
@@ -49,7 +49,7 @@ impl<'a> Model for Task<'a> {
 
 impl<'a> Task<'a> {
     /// A slot of a device.
-    pub fn on_device(phase: Phase, kind: Kind, level: u32, place: usize, device: &Device<'a>) -> Task<'a>
+    pub fn on_device(phase: Phase, kind: Kind, level: u64, place: usize, device: &Device<'a>) -> Task<'a>
         ensures { result ≡ Slots.task phase kind level place device.now }
     {
         Task {
@@ -81,7 +81,7 @@ impl<'a> Task<'a> {
         ensures { result ≡ same_slot self.now.slot slot }
     {
         self.phase.is(slot.phase)
-            && self.level == u32::from(slot.level)
+            && self.level == u64::from(slot.level)
             && self.place == usize::from(slot.place)
     }
 
@@ -162,7 +162,7 @@ fn acting(kind: Kind, definition: &Definition) -> Kind
 }
 
 /// An Off slot in a split reboot, else an Act slot.
-pub(crate) fn act_task<'a>(split: bool, kind: Kind, level: u32, place: usize, device: &Device<'a>) -> Task<'a>
+pub(crate) fn act_task<'a>(split: bool, kind: Kind, level: u64, place: usize, device: &Device<'a>) -> Task<'a>
     ensures { result ≡ Slots.act_task split kind level place device.now }
 {
     if split {
@@ -174,7 +174,7 @@ pub(crate) fn act_task<'a>(split: bool, kind: Kind, level: u32, place: usize, de
 }
 
 /// The On slot of a device that has on.
-pub(crate) fn on_task<'a>(level: u32, place: usize, device: &Device<'a>) -> Option<Task<'a>>
+pub(crate) fn on_task<'a>(level: u64, place: usize, device: &Device<'a>) -> Option<Task<'a>>
     ensures { result ≡ Slots.on_task level place device.now }
 {
     if device.definition.actions.on {
