@@ -7,3 +7,5 @@ pub mod Looks
 pub mod Gatherings
 pub mod Ranks
 pub mod Ordered
+pub mod Queue
+pub mod SurveyLemmas

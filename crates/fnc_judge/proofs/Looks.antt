@@ -1,5 +1,5 @@
 -- What is seen of a slot, one act after another.
-use Rattle.std.proofs.Common.{ℕ, List, [], ◌∷◌, Bool, true, false, ◌≡◌, ◌≤◌, ◌<◌, ◌+◌, ◌==◌, ◌&&◌, ◌||◌, not, cond, refl, ap, ◌∙◌, Option, Some, None, arith, length}
+use Rattle.std.proofs.Common.{ℕ, List, [], ◌∷◌, Bool, true, false, ◌≡◌, ◌≤◌, ◌<◌, ◌+◌, ◌==◌, ◌&&◌, ◌||◌, not, cond, refl, sym, ap, ◌∙◌, Option, Some, None, arith, length}
 use Rattle.std.specs.Prelude.{option_map, is_some}
 use Rattle.fnc_journal.specs.declared.entry.Event.{Event}
 use Rattle.fnc_journal.specs.declared.entry.Exit.{Exit}
@@ -9,8 +9,8 @@ use Rattle.fnc_journal.specs.Missing.{or_here}
 use Rattle.fnc_journal.specs.Same.{same_slot}
 use Rattle.fnc_journal.specs.Exits.{is_success}
 use Rattle.fnc_journal.specs.Slots.{Task, tries}
-use Rattle.fnc_journal.specs.Acts.{Act, acts, act_here, cons_act, slot_of_run, failed, fails_here, begun_at, success_at, has_succeeded, succeeds_here, moment_of}
-use Rattle.fnc_judge.specs.Seen.{begun_slot, seen_of, seen_with, is_in_time_by}
+use Rattle.fnc_journal.specs.Acts.{Act, acts, act_here, cons_act, slot_of_run, failed, fails_here, begun_at, success_at, has_succeeded, succeeds_here, moment_of, is_query, answered, confirmed, concluded, spent}
+use Rattle.fnc_judge.specs.Seen.{answered_by, confirmed_by, concluded_by, begun_slot, seen_of, seen_with, is_in_time_by}
 
 pub slot-more : (o n m : ℕ) (event : Event) (h : History) →
     or_here (slot_of_run n (acts o h)) (begun_slot o n event) ≡ slot_of_run n (acts o (record { moment = m; event = event } ∷ h))
@@ -72,3 +72,13 @@ succeeded-when t over (a ∷ xs) = go (succeeds_here t over xs a) (success_at t 
     go true None p = refl
     go true (Some x) p = refl
     go false s p = p
+
+-- so what is said of a slot is read off what was seen of it
+pub answered_same : (t : Task) (over : ℕ) (xs : List Act) → answered_by t (seen_of t over xs) ≡ answered t over xs
+answered_same t over xs = ap (λ b. is_query t && b) (sym (succeeded-when t over xs))
+
+pub confirmed_same : (t : Task) (over : ℕ) (xs : List Act) → confirmed_by t (seen_of t over xs) ≡ confirmed t over xs
+confirmed_same t over xs = ap (λ b. not (is_query t) && b) (sym (succeeded-when t over xs))
+
+pub concluded_same : (t : Task) (over m : ℕ) (xs : List Act) → concluded_by t m (seen_of t over xs) ≡ concluded t over m xs
+concluded_same t over m xs = ap (λ b. b || spent t over m xs) (sym (succeeded-when t over xs))

@@ -1,4 +1,5 @@
 pub mod Led
+pub mod Courses
 pub mod Indices
 pub mod Keyed
 pub mod Numbers

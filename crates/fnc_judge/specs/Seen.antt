@@ -78,6 +78,10 @@ end_by t s = option_map (λ x. x + time t) s.begun
 abbrev pub confirmed_by : Task → Seen → Bool
 confirmed_by t s = not (is_query t) && is_some s.success
 
+-- whether the slot is answered
+abbrev pub answered_by : Task → Seen → Bool
+answered_by t s = is_query t && is_some s.success
+
 -- whether the slot is spent
 abbrev pub spent_by : Task → ℕ → Seen → Bool
 spent_by t m s = (s.failed == tries t) || has_come (end_by t s) m

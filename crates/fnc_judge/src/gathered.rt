@@ -23,9 +23,12 @@ pub(crate) struct Gathered<'a> {
 }
 
 impl<'a> Model for Gathered<'a> {
+    ghost use Rattle.std.specs.Prelude.{◌<◌, ◌^◌};
     ghost use Rattle.fnc_judge.specs.Tours as Tours;
 
     ghost Value = { Tours.Gathered };
+
+    ghost invariant = { λ g. g.greatest < 2 ^ 65 };
 
     ghost view = { λ g. record { unconfirmed = g.unconfirmed; unconcluded = g.unconcluded; lost = g.lost; greatest = g.greatest } };
 }

@@ -3,6 +3,7 @@
 #![tactic(auto)]
 
 mod candidates;
+mod course;
 mod found;
 mod gathered;
 mod kept;

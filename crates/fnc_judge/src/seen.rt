@@ -1,10 +1,10 @@
 // What the runs of an operation say of a slot.
 
-ghost use Rattle.std.specs.Prelude.{◌≡◌, ◌<◌, ◌≤◌, ◌&&◌, ◌+◌, ◌-◌, ◌^◌, Some};
+ghost use Rattle.std.specs.Prelude.{◌≡◌, ◌<◌, ◌≤◌, ◌&&◌, ◌+◌, ◌-◌, ◌^◌, IfSome, Some};
 ghost use Rattle.fnc_journal.specs.Acts as Acts;
 ghost use Rattle.fnc_journal.specs.Exits as Exits;
 ghost use Rattle.fnc_journal.specs.Missing as Missing;
-ghost use Rattle.fnc_judge.specs.Seen.{begun_slot, concluded_at_by, concluded_by, confirmed_by, end_by, is_in_time_by, seen_begun, seen_ended, seen_exit, seen_failure, seen_in_time, seen_of, seen_success, seen_with, spent_by};
+ghost use Rattle.fnc_judge.specs.Seen.{answered_by, begun_slot, concluded_at_by, concluded_by, confirmed_by, end_by, is_in_time_by, seen_begun, seen_ended, seen_exit, seen_failure, seen_in_time, seen_of, seen_success, seen_with, spent_by};
 
 use crate::past::Past;
 use crate::task::Task;
@@ -203,7 +203,8 @@ impl Seen {
 
     /// The end of the slot's action.
     pub fn end(self, task: &Task<'_>) -> Option<u128>
-        ensures { result ≡ end_by task.now self }
+        ensures end { result ≡ end_by task.now self }
+        ensures small { IfSome result (λ x. x < 2 ^ 65) }
     {
         let begun = self.begun?;
         Some(u128::from(begun) + u128::from(task.time()))
@@ -214,6 +215,13 @@ impl Seen {
         ensures { result ≡ confirmed_by task.now self }
     {
         !task.is_query() && self.success.is_some()
+    }
+
+    /// Whether the slot is answered.
+    pub fn is_answered(self, task: &Task<'_>) -> bool
+        ensures { result ≡ answered_by task.now self }
+    {
+        task.is_query() && self.success.is_some()
     }
 
     /// Whether the slot is spent.
@@ -232,7 +240,8 @@ impl Seen {
 
     /// When the slot was concluded.
     pub fn concluded_at(self, task: &Task<'_>, begin: u64) -> u128
-        ensures { result ≡ concluded_at_by task.now begin self }
+        ensures at { result ≡ concluded_at_by task.now begin self }
+        ensures small { result < 2 ^ 65 }
     {
         let success = wide(self.success);
         let failure = wide(self.last_failure);
@@ -244,14 +253,18 @@ impl Seen {
 }
 
 fn wide(moment: Option<u64>) -> Option<u128>
-    ensures { result ≡ moment }
+    ensures same { result ≡ moment }
+    ensures small { IfSome result (λ x. x < 2 ^ 65) }
 {
     let moment = moment?;
     Some(u128::from(moment))
 }
 
 fn least_of(a: Option<u128>, b: Option<u128>) -> Option<u128>
-    ensures { result ≡ Missing.least_of a b }
+    requires a { IfSome a (λ x. x < 2 ^ 65) }
+    requires b { IfSome b (λ x. x < 2 ^ 65) }
+    ensures least { result ≡ Missing.least_of a b }
+    ensures small { IfSome result (λ x. x < 2 ^ 65) }
 {
     match (a, b) {
         (Some(x), Some(y)) => Some(x.min(y)),

@@ -43,9 +43,12 @@ pub(crate) struct Survey<'a> {
 }
 
 impl<'a> Model for Survey<'a> {
+    ghost use Rattle.std.specs.Prelude.{◌<◌, ◌^◌};
     ghost use Rattle.fnc_judge.specs.Surveys as Surveys;
 
     ghost Value = { Surveys.Survey };
+
+    ghost invariant = { λ s. s.greatest < 2 ^ 65 };
 
     ghost view = { λ s. record { any = s.any; kept = s.kept; greatest = s.greatest } };
 }
