@@ -9,3 +9,4 @@ pub mod Ranks
 pub mod Ordered
 pub mod Queue
 pub mod SurveyLemmas
+pub mod CourseLemmas

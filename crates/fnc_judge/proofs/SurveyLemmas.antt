@@ -1,6 +1,6 @@
 -- What is gathered of levels, as the definitions say it.
 use Rattle.std.proofs.Common.{ℕ, List, [], ◌∷◌, ◌++◌, Bool, true, false, ◌≡◌, ◌||◌, ◌&&◌, not, max, leb, cond, refl, sym, ap, ◌∙◌, arith, Option, Some, None}
-use Rattle.std.specs.Prelude.{find, is_none, is_some, option_map, option_and_then}
+use Rattle.std.specs.Prelude.{if◌then◌else◌, find, is_none, is_some, option_map, option_and_then}
 use Rattle.std.specs.List.{list_any, list_all}
 use Rattle.std.specs.Option.{option_or}
 use Rattle.fnc_journal.specs.Missing.{has_any}
@@ -50,14 +50,35 @@ pub survey-any : (o : Operation) (m : ℕ) (acts : List Act) (s : Survey) (ls : 
 survey-any o m acts s [] = or-false s.any
 survey-any o m acts s (l ∷ ls) = survey-any o m acts (surveyed o m acts s l) ls ∙ any-next s.any ls l
 
+append-grouped : (xs ys zs : List Task) → (xs ++ ys) ++ zs ≡ xs ++ (ys ++ zs)
+append-grouped [] ys zs = refl
+append-grouped (x ∷ xs) ys zs = ap (λ ts. x ∷ ts) (append-grouped xs ys zs)
+
 pub survey-greatest : (o : Operation) (m : ℕ) (acts : List Act) (s : Survey) (ls : List Rank) →
     max s.greatest (greatest_concluded o m acts (slots_of ls)) ≡ max (surveyed_all o m acts s ls).greatest o.begin
 survey-greatest o m acts s [] = refl
-survey-greatest o m acts s (l ∷ ls) =
-    let f = gathered-greatest o m acts nothing l.firsts (l.ons ++ slots_of ls) in
-    let n = gathered-greatest o m acts nothing l.ons (slots_of ls) in
-    let here : max s.greatest (greatest_concluded o m acts (l.firsts ++ l.ons ++ slots_of ls)) ≡ max (surveyed o m acts s l).greatest (greatest_concluded o m acts (slots_of ls)) = omega (arith, f, n) in
-    here ∙ survey-greatest o m acts (surveyed o m acts s l) ls
+survey-greatest o m acts s (l ∷ ls) = here ∙ survey-greatest o m acts (surveyed o m acts s l) ls
+  where
+    rest : ℕ
+    rest = greatest_concluded o m acts (slots_of ls)
+
+    firsts : ℕ
+    firsts = (gathered_all o m acts nothing l.firsts).greatest
+
+    ons : ℕ
+    ons = (gathered_all o m acts nothing l.ons).greatest
+
+    joined : (a f n r b g : ℕ) → max 0 a ≡ max f b → max 0 b ≡ max n r → max g a ≡ max (max g (max f n)) r
+    joined a f n r b g p q = omega (arith, p, q)
+
+    grouped : greatest_concluded o m acts (l.firsts ++ l.ons ++ slots_of ls) ≡ greatest_concluded o m acts (l.firsts ++ (l.ons ++ slots_of ls))
+    grouped = ap (greatest_concluded o m acts) (append-grouped l.firsts l.ons (slots_of ls))
+
+    here : max s.greatest (greatest_concluded o m acts (l.firsts ++ l.ons ++ slots_of ls)) ≡ max (max s.greatest (max firsts ons)) rest
+    here =
+        ap (max s.greatest) grouped
+        ∙ joined (greatest_concluded o m acts (l.firsts ++ (l.ons ++ slots_of ls))) firsts ons rest (greatest_concluded o m acts (l.ons ++ slots_of ls)) s.greatest
+        (gathered-greatest o m acts nothing l.firsts (l.ons ++ slots_of ls)) (gathered-greatest o m acts nothing l.ons (slots_of ls))
 
 pub standing-same : (o : Operation) (m : ℕ) (acts : List Act) (l : Rank) → (kept_of o m acts l).standing ≡ standing_in o m acts l
 standing-same o m acts l = rw (gathered-unconfirmed o m acts nothing l.firsts, gathered-unconcluded o m acts nothing l.ons) refl
@@ -87,7 +108,7 @@ passed-same o m acts (l ∷ ls) = go l.unfit refl (is_done o m acts l) refl (lis
     go : (a : Bool) → l.unfit ≡ a → (b : Bool) → is_done o m acts l ≡ b → (c : Bool) → list_any (is_lost_by o m acts) l.firsts ≡ c →
         passed_among o m acts ls ≡ option_and_then (λ l. if is_done o m acts l then Some l else None) (first_kept o m acts ls) →
         passed_among o m acts (l ∷ ls) ≡ option_and_then (λ l. if is_done o m acts l then Some l else None) (first_kept o m acts (l ∷ ls))
-    go true p b q c r ih = rw (p, q) ih
+    go true p b q c r ih = rw p ih
     go false p true q true r ih =
         let all = and-left (list_all (λ t. confirmed t o.over acts) l.firsts) (list_all (λ t. concluded t o.over m acts) l.ons || leb o.over m) q in
         let none = none-lost o m acts l.firsts all in

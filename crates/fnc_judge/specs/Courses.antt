@@ -1,11 +1,13 @@
 -- What the judge gathers of an operation: of its queries and of the levels that it tries.
-use Rattle.std.specs.Prelude.{ℕ, List, [], ◌∷◌, Bool, ◌&&◌, ◌+◌, if◌then◌else◌, nat_le, Option, Some, None, is_none, is_some, option_and_then}
+use Rattle.std.specs.Prelude.{ℕ, List, [], ◌∷◌, Bool, ◌&&◌, ◌+◌, if◌then◌else◌, nat_le, max, Option, Some, None, is_none, is_some, option_and_then}
 use Rattle.std.specs.Option.{option_or}
 use Rattle.fnc_journal.specs.declared.entry.Answer.{Answer}
 use Rattle.fnc_journal.specs.Slots.{Task, QueriedDevice, Operation, rank, queries}
 use Rattle.fnc_journal.specs.Acts.{Act}
 use Rattle.fnc_journal.specs.Standing.{capable_query, ranks}
 use Rattle.fnc_judge.specs.declared.course.Due.{Due}
+use Rattle.fnc_journal.specs.declared.entry.Scope.{Scope}
+use Rattle.fnc_judge.specs.Pursued.{Pursued, operation, candidates_of}
 use Rattle.fnc_judge.specs.Tours.{Gathered, nothing, gathered_any, gathered_all}
 use Rattle.fnc_judge.specs.Surveys.{Survey, Kept, none, surveyed, surveyed_all}
 
@@ -75,3 +77,20 @@ passed_by s = option_and_then (λ (k : Kept). if k.done then Some (Due.Passed k.
 -- the answer that is due by the acts alone
 abbrev pub due_by : ℕ → ℕ → Gathered → Survey → Option Due
 due_by over m q s = option_or (passed_by s) (failure_by over m q s)
+
+-- the candidates are tried once every query is concluded
+abbrev pub tried : Course → Course
+tried s = if is_none s.queries.unconcluded then s else record s { survey = none }
+
+-- of an operation with this scope
+abbrev pub course_by : Scope → Pursued → ℕ → List Act → Course
+course_by Scope.Nothing p m acts = tried (coursed_all (operation p) m acts start (candidates_of p))
+course_by _ p m acts = record { queries = nothing; survey = surveyed_all (operation p) m acts none (operation p).levels; index = 1 }
+
+-- of an operation
+abbrev pub course_of : Pursued → ℕ → List Act → Course
+course_of p m acts = course_by p.asked.scope p m acts
+
+-- since when the operation stands where it stands
+abbrev pub since_by : ℕ → Course → ℕ
+since_by begin s = max s.queries.greatest (max s.survey.greatest begin)

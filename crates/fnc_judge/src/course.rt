@@ -10,13 +10,14 @@ ghost use Rattle.fnc_journal.specs.Standing as Standing;
 ghost use Rattle.fnc_judge.specs.Courses as Courses;
 ghost use Rattle.fnc_judge.specs.Pursued.{candidates_of};
 ghost use Rattle.fnc_judge.specs.Pursued as Pursued;
+ghost use Rattle.fnc_judge.specs.Seen.{last_of};
 ghost use Rattle.fnc_judge.specs.Surveys as Surveys;
 
 use crate::candidates::{Candidate, next_candidate, query_of};
 use crate::gathered::Gathered;
 use crate::past::Past;
 use crate::pursued::Operation;
-use crate::seen::looked_at;
+use crate::seen::{Last, looked_at};
 use crate::survey::{Survey, survey_levels};
 use crate::task::{Device, Task, act_task, device_of};
 use fnc_journal::{Kind, Phase, Scope};
@@ -190,4 +191,160 @@ pub(crate) enum Due {
     Time,
     NoDevice,
     Confirmed,
+}
+
+fn tried(course: Course<'_>) -> Course<'_>
+    ensures { result ≡ Courses.tried course.entry }
+{
+    if course.queries.unconcluded.is_none() {
+        course
+    } else {
+        Course {
+            queries: course.queries,
+            survey: Survey::none(),
+            index: course.index,
+        }
+    }
+}
+
+/// What is gathered of an operation.
+fn course_of<'a>(operation: &Operation<'a>, moment: u64, past: &Past<'_>) -> Course<'a>
+    ensures { result ≡ Courses.course_of operation.now moment (Acts.acts operation.now.req past.now) }
+{
+    match operation.scope() {
+        Scope::Nothing => tried(candidates(operation, moment, past)),
+        _ => Course {
+            queries: Gathered::nothing(),
+            survey: survey_levels(operation, moment, past),
+            index: 1,
+        },
+    }
+}
+
+fn standing_by(course: Course<'_>) -> Option<Task<'_>>
+    ensures { result ≡ Courses.standing_by course.entry.queries course.entry.survey }
+{
+    match course.queries.unconcluded {
+        Some(task) => Some(task),
+        None => {
+            let kept = course.survey.kept?;
+            kept.standing
+        }
+    }
+}
+
+/// The slot at which an operation stands at a moment.
+pub(crate) fn standing<'a>(operation: &Operation<'a>, moment: u64, past: &Past<'_>) -> Option<Task<'a>>
+    ensures { result ≡ Standing.standing (Pursued.operation operation.now) moment (Acts.acts operation.now.req past.now) }
+{
+    standing_by(course_of(operation, moment, past))
+}
+
+fn time_by(over: u128, moment: u64) -> Option<Due>
+    ensures { result ≡ Courses.time_by over moment }
+{
+    if over <= u128::from(moment) {
+        Some(Due::Time)
+    } else {
+        None
+    }
+}
+
+fn passed_by(survey: &Survey<'_>) -> Option<Due>
+    ensures { result ≡ Courses.passed_by survey.now }
+{
+    match &survey.kept {
+        Some(kept) => {
+            if kept.done {
+                Some(Due::Passed(kept.index))
+            } else {
+                None
+            }
+        }
+        None => None,
+    }
+}
+
+fn failure_by(course: &Course<'_>, over: u128, moment: u64) -> Option<Due>
+    ensures { result ≡ Courses.failure_by over moment course.now.queries course.now.survey }
+{
+    let concluded = course.queries.unconcluded.is_none();
+    if course.survey.any {
+        if concluded && course.survey.kept.is_none() {
+            return Some(Due::Levels);
+        }
+    } else if concluded {
+        return Some(Due::NoDevice);
+    }
+    time_by(over, moment)
+}
+
+fn due_by(course: &Course<'_>, over: u128, moment: u64) -> Option<Due>
+    ensures { result ≡ Courses.due_by over moment course.now.queries course.now.survey }
+{
+    match passed_by(&course.survey) {
+        Some(passed) => Some(passed),
+        None => failure_by(course, over, moment),
+    }
+}
+
+/// The answer that is due to an operation by its acts alone.
+pub(crate) fn due_by_acts(operation: &Operation<'_>, moment: u64, past: &Past<'_>) -> Option<Due>
+    ensures { option_map Courses.answer_of result ≡ Dues.due_by_acts (Pursued.operation operation.now) moment (Acts.acts operation.now.req past.now) }
+{
+    due_by(
+        &course_of(operation, moment, past),
+        operation.over(),
+        moment,
+    )
+}
+
+fn since_by(course: &Course<'_>, begin: u64) -> u128
+    ensures since { result ≡ Courses.since_by begin course.now }
+    ensures small { result < 2 ^ 65 }
+{
+    let greatest = course.survey.greatest.max(u128::from(begin));
+    course.queries.greatest.max(greatest)
+}
+
+/// Since when an operation stands where it stands.
+fn since(operation: &Operation<'_>, moment: u64, past: &Past<'_>) -> u128
+    ensures since { result ≡ Standing.since (Pursued.operation operation.now) moment (Acts.acts operation.now.req past.now) }
+    ensures small { result < 2 ^ 65 }
+{
+    since_by(&course_of(operation, moment, past), operation.begin())
+}
+
+fn delay(operation: &Operation<'_>, task: &Task<'_>) -> u64
+    ensures { result ≡ Devices.delay task.now.definition task.now.kind operation.now.asked.target operation.now.asked.coin }
+{
+    task.definition
+        .delay_of(task.kind, operation.target(), operation.coin())
+}
+
+/// When the next try of a slot is ready.
+pub(crate) fn ready(operation: &Operation<'_>, moment: u64, past: &Past<'_>, task: &Task<'_>) -> Option<u128>
+    ensures { result ≡ Standing.ready (Pursued.operation operation.now) moment (Acts.acts operation.now.req past.now) task.now }
+{
+    let seen = looked_at(past, operation.req(), task, operation.over());
+    ready_after(operation, moment, past, task, seen.last)
+}
+
+fn ready_after(
+    operation: &Operation<'_>,
+    moment: u64,
+    past: &Past<'_>,
+    task: &Task<'_>,
+    last: Last,
+) -> Option<u128>
+    ensures { (l : Acts.Last) → last ≡ last_of l → result ≡ Standing.ready_after (Pursued.operation operation.now) moment (Acts.acts operation.now.req past.now) task.now l }
+{
+    match last {
+        Last::NoRun => {
+            let delay = u128::from(delay(operation, task));
+            Some(since(operation, moment, past) + delay)
+        }
+        Last::Alive(_) => None,
+        Last::EndedAt(at) => Some(u128::from(at)),
+    }
 }
