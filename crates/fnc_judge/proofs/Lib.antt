@@ -10,3 +10,5 @@ pub mod Ordered
 pub mod Queue
 pub mod SurveyLemmas
 pub mod CourseLemmas
+pub mod Opening
+pub mod Testings

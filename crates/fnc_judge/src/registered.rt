@@ -89,7 +89,7 @@ pub(crate) fn least_registration(past: &Past<'_>, name: &str) -> Option<u32>
 }
 
 /// The lane of a registration: the least one with the same name.
-pub(crate) fn lane(past: &Past<'_>, reg: u32) -> u32
+pub(crate) fn lane_of(past: &Past<'_>, reg: u32) -> u32
     ensures { result ≡ Registered.lane reg past.now }
 {
     match registration(past, reg) {

@@ -62,6 +62,20 @@ impl<'a> Task<'a> {
         }
     }
 
+    /// The registration of its device.
+    pub fn reg(&self) -> u32
+        ensures { result ≡ self.now.reg }
+    {
+        self.reg
+    }
+
+    /// How many runs its device may have alive, where there is a limit.
+    pub fn cap(&self) -> Option<u32>
+        ensures { result ≡ self.now.definition.cap }
+    {
+        self.definition.cap
+    }
+
     /// The same slot once more.
     pub fn again(&self) -> Task<'a>
         ensures { result ≡ self.now }
@@ -83,6 +97,15 @@ impl<'a> Task<'a> {
         self.phase.is(slot.phase)
             && self.level == u64::from(slot.level)
             && self.place == usize::from(slot.place)
+    }
+
+    /// Whether its slot is this one.
+    pub fn is_of(&self, slot: Slot) -> bool
+        ensures { result ≡ same_slot slot self.now.slot }
+    {
+        slot.phase.is(self.phase)
+            && u64::from(slot.level) == self.level
+            && usize::from(slot.place) == self.place
     }
 
     /// Whether the slot asks a query.
