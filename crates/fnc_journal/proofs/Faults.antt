@@ -44,7 +44,7 @@ pub unbroken-entry : (e : Entry) (h : History) → LawfulEntry e h → broken e 
 unbroken-entry e h l = rw (l.ordered, l.exits, l.starts, l.once_only, l.replies, l.prompted) refl
 
 -- the fault of an entry and of what lies before it
-abbrev with_before : Option Fault → Option Fault → Option Fault
+abbrev pub with_before : Option Fault → Option Fault → Option Fault
 with_before here earlier = elim earlier [ Some f ↦ Some f | None ↦ here ]
 
 pub lawful-no_fault : (h : History) → fault h ≡ None → Lawful h

@@ -12,3 +12,4 @@ pub mod SurveyLemmas
 pub mod CourseLemmas
 pub mod Opening
 pub mod Testings
+pub mod Firsts

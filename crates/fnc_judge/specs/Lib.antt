@@ -10,3 +10,4 @@ pub mod Seen
 pub mod Surveys
 pub mod Testing
 pub mod Tours
+pub mod Verdicts

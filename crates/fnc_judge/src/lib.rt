@@ -18,3 +18,6 @@ mod seen;
 mod startable;
 mod survey;
 mod task;
+mod verdict;
+
+pub use verdict::{Verdict, judge};
