@@ -1,15 +1,14 @@
 -- What is gathered of an operation, as the definitions say it.
-use Rattle.std.proofs.Common.{ℕ, List, [], ◌∷◌, ◌++◌, Bool, true, false, ◌≡◌, ◌||◌, ◌&&◌, ◌+◌, not, max, leb, cond, refl, sym, ap, ◌∙◌, arith, Option, Some, None}
-use Rattle.std.specs.Prelude.{if◌then◌else◌, find, filter, filter_map, is_none, is_some, option_map, option_and_then}
-use Rattle.std.specs.List.{list_any, list_all, cons_option}
+use Rattle.std.proofs.Common.{ℕ, List, [], ◌∷◌, Bool, true, false, ◌≡◌, ◌&&◌, ◌+◌, not, max, leb, cond, refl, sym, ap, ◌∙◌, arith, Option, Some, None}
+use Rattle.std.specs.Prelude.{if◌then◌else◌, find, filter, filter_map, is_none, option_map, option_and_then}
+use Rattle.std.specs.List.{list_all, cons_option}
 use Rattle.std.specs.Option.{option_or}
 use Rattle.fnc_journal.specs.declared.entry.Answer.{Answer}
-use Rattle.fnc_journal.specs.declared.entry.Kind.{Kind}
 use Rattle.fnc_journal.specs.declared.entry.Scope.{Scope}
 use Rattle.fnc_journal.specs.Missing.{has_any}
 use Rattle.fnc_journal.specs.Slots.{Task, QueriedDevice, Rank, Operation, queries, rank, ranked_from, slots_of}
 use Rattle.fnc_journal.specs.Acts.{Act, concluded}
-use Rattle.fnc_journal.specs.Standing.{capable, capable_query, queries_concluded, ranks, first_kept, standing, standing_in, since, slots, greatest_concluded, lost}
+use Rattle.fnc_journal.specs.Standing.{capable, capable_query, queries_concluded, ranks, first_kept, standing, standing_in, since, greatest_concluded, lost}
 use Rattle.fnc_journal.specs.Due.{passed_among, answer_passed, failure_due, time_due, due_by_acts, is_done}
 use Rattle.fnc_judge.specs.declared.course.Due.{Due}
 use Rattle.fnc_judge.specs.Tours.{Gathered, gathered_all, gathered_any, nothing}

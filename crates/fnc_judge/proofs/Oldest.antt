@@ -1,5 +1,5 @@
 -- The oldest entry of levels.
-use Rattle.std.proofs.Common.{ℕ, List, [], ◌∷◌, ◌≡◌, min, refl, ap, ◌∙◌, Option, Some, None, arith, Bool, true, false}
+use Rattle.std.proofs.Common.{ℕ, List, [], ◌∷◌, ◌≡◌, min, refl, ap, Option, Some, None, arith, true}
 use Rattle.std.specs.Prelude.{is_some}
 use Rattle.fnc_journal.specs.Missing.{least_of, has_any}
 use Rattle.fnc_journal.specs.Levels.{Level, oldest}

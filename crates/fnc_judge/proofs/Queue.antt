@@ -11,7 +11,7 @@ use Rattle.fnc_journal.specs.Standing.{capable_query}
 use Rattle.fnc_judge.specs.declared.candidates.After.{After}
 use Rattle.fnc_judge.specs.Keyed.{Keyed, key, keyed_among, later}
 use Rattle.fnc_judge.specs.Pursued.{Pursued, wanted, candidates_of}
-use Rattle.fnc_judge.specs.Courses.{Course, coursed, coursed_any, coursed_all}
+use Rattle.fnc_judge.specs.Courses.{Course, coursed_any, coursed_all}
 use Rattle.fnc_judge.proofs.Ordered.{ordered, later-none, later-next, later-fewer, keyed-most, devices-same}
 
 -- all of them

@@ -1,15 +1,14 @@
 -- The slots of a level, read off the names of its devices.
-use Rattle.std.proofs.Common.{ℕ, List, [], ◌∷◌, Bool, true, false, ◌≡◌, ◌+◌, ◌||◌, cond, refl, sym, ap, ◌∙◌, Option, Some, None}
+use Rattle.std.proofs.Common.{ℕ, List, [], ◌∷◌, Bool, true, false, ◌≡◌, ◌+◌, ◌||◌, refl, ap, Option, Some, None}
 use Rattle.std.specs.Prelude.{map, filter_map, is_none, option_map, option_and_then}
 use Rattle.std.specs.List.{list_any, cons_option}
 use Rattle.fnc_journal.specs.declared.entry.Kind.{Kind}
-use Rattle.fnc_journal.specs.declared.entry.Reg.{Reg}
 use Rattle.fnc_journal.specs.History.{History}
 use Rattle.fnc_journal.specs.Device.{Device}
 use Rattle.fnc_journal.specs.Registered.{current}
 use Rattle.fnc_journal.specs.Levels.{Level}
 use Rattle.fnc_journal.specs.Plan.{reg_of, plan_level}
-use Rattle.fnc_journal.specs.Slots.{Task, Operation, Rank, place_of, rank_of, rank, rank_with, fit_devices, is_split, acts_from, ons_from, act_task, on_task}
+use Rattle.fnc_journal.specs.Slots.{Operation, place_of, rank_of, rank, is_split, acts_from, ons_from, act_task, on_task}
 use Rattle.fnc_judge.specs.Places.{placed, is_unfit, firsts_over, ons_over}
 use Rattle.fnc_judge.specs.Surveys.{Survey, rank_over, ranks_for, is_split_over, surveyed, surveyed_all, surveyed_any}
 use Rattle.fnc_judge.proofs.Rising.{before_it}

@@ -1,6 +1,6 @@
 -- What is gathered of levels, as the definitions say it.
-use Rattle.std.proofs.Common.{ℕ, List, [], ◌∷◌, ◌++◌, Bool, true, false, ◌≡◌, ◌||◌, ◌&&◌, not, max, leb, cond, refl, sym, ap, ◌∙◌, arith, Option, Some, None}
-use Rattle.std.specs.Prelude.{if◌then◌else◌, find, is_none, is_some, option_map, option_and_then}
+use Rattle.std.proofs.Common.{ℕ, List, [], ◌∷◌, ◌++◌, Bool, true, false, ◌≡◌, ◌||◌, ◌&&◌, not, max, leb, cond, refl, ap, ◌∙◌, arith, Option, Some, None}
+use Rattle.std.specs.Prelude.{if◌then◌else◌, is_none, option_map, option_and_then}
 use Rattle.std.specs.List.{list_any, list_all}
 use Rattle.std.specs.Option.{option_or}
 use Rattle.fnc_journal.specs.Missing.{has_any}
@@ -8,7 +8,7 @@ use Rattle.fnc_journal.specs.Slots.{Task, Rank, Operation, slots_of}
 use Rattle.fnc_journal.specs.Acts.{Act, confirmed, concluded, spent}
 use Rattle.fnc_journal.specs.Standing.{is_lost_by, lost, first_kept, standing_in, greatest_concluded}
 use Rattle.fnc_journal.specs.Due.{is_done, passed_among}
-use Rattle.fnc_judge.specs.Tours.{Gathered, gathered_all, nothing}
+use Rattle.fnc_judge.specs.Tours.{gathered_all, nothing}
 use Rattle.fnc_judge.specs.Surveys.{Survey, Kept, kept_by, surveyed, surveyed_all}
 use Rattle.fnc_judge.proofs.Gatherings.{gathered-unconfirmed, gathered-unconcluded, gathered-lost, gathered-greatest, all-find}
 use Rattle.fnc_journal.proofs.Lawfulness.{and-left}

@@ -1,18 +1,15 @@
 -- Parts of the rules of an entry, as the definitions say them.
-use Rattle.std.proofs.Common.{ℕ, List, [], ◌∷◌, Bool, true, false, ◌≡◌, ◌≤◌, ◌<◌, ◌+◌, ◌==◌, ◌&&◌, ◌||◌, cond, refl, sym, ap, ◌∙◌, arith, eq-eqb, Option, Some, None, length, zero, suc, ◌-◌}
+use Rattle.std.proofs.Common.{ℕ, List, [], ◌∷◌, Bool, true, false, ◌≡◌, ◌≤◌, ◌+◌, ◌==◌, ◌&&◌, ◌||◌, cond, refl, arith, eq-eqb, Option, Some, None, length}
 use Rattle.std.specs.Prelude.{find, is_some, option_map}
 use Rattle.std.specs.List.{list_any}
-use Rattle.fnc_journal.specs.declared.entry.Entry.{Entry}
 use Rattle.fnc_journal.specs.declared.entry.Event.{Event}
-use Rattle.fnc_journal.specs.declared.entry.Exit.{Exit}
 use Rattle.fnc_journal.specs.declared.entry.Slot.{Slot}
 use Rattle.fnc_journal.specs.History.{History}
 use Rattle.fnc_journal.specs.Missing.{first_of}
 use Rattle.fnc_journal.specs.Found.{entry_at}
 use Rattle.fnc_journal.specs.Same.{same_slot}
-use Rattle.fnc_journal.specs.Acts.{Act, acts, runs, act_here, cons_act, slot_of_run}
-use Rattle.fnc_journal.specs.Lawful.{last_moment, pending, fault, fault_at, Fault, broken}
-use Rattle.fnc_journal.specs.Prefix.{prefix}
+use Rattle.fnc_journal.specs.Acts.{Act, acts, runs, cons_act, slot_of_run}
+use Rattle.fnc_journal.specs.Lawful.{last_moment, pending}
 use Rattle.fnc_judge.specs.Testing.{moment_by, pending_after, runs_here}
 
 -- the last entry

@@ -1,5 +1,5 @@
 -- What the judge gathers of an operation: of its queries and of the levels that it tries.
-use Rattle.std.specs.Prelude.{ℕ, List, [], ◌∷◌, Bool, ◌&&◌, ◌+◌, if◌then◌else◌, nat_le, max, Option, Some, None, is_none, is_some, option_and_then}
+use Rattle.std.specs.Prelude.{ℕ, List, [], ◌∷◌, ◌&&◌, ◌+◌, if◌then◌else◌, nat_le, max, Option, Some, None, is_none, option_and_then}
 use Rattle.std.specs.Option.{option_or}
 use Rattle.fnc_journal.specs.declared.entry.Answer.{Answer}
 use Rattle.fnc_journal.specs.Slots.{Task, QueriedDevice, Operation, rank, queries}

@@ -1,12 +1,12 @@
 -- The open operations, one after another, as the judge keeps them.
-use Rattle.std.specs.Prelude.{ℕ, List, [], ◌∷◌, Bool, true, false, ◌==◌, ◌&&◌, ◌+◌, not, if◌then◌else◌, filter, Option, Some, None, option_and_then, length}
+use Rattle.std.specs.Prelude.{ℕ, List, [], ◌∷◌, Bool, false, ◌==◌, ◌&&◌, not, if◌then◌else◌, filter, Option, Some, None, option_and_then, length}
 use Rattle.fnc_journal.specs.declared.entry.Event.{Event}
 use Rattle.fnc_journal.specs.History.{History}
 use Rattle.fnc_journal.specs.Missing.{append_some, first_of}
 use Rattle.fnc_journal.specs.Found.{Asked, asked, is_answered, has_exit}
 use Rattle.fnc_journal.specs.Registered.{lane}
 use Rattle.fnc_journal.specs.Operations.{requests, request_here, is_open, operation_here}
-use Rattle.fnc_journal.specs.Startable.{Begun, begun_runs, begun_here, Startable, startable}
+use Rattle.fnc_journal.specs.Startable.{Begun, begun_here, Startable, startable}
 use Rattle.fnc_judge.specs.Pursued.{Pursued, operation}
 
 -- the first request of an operation in a journal that has no reply in all of it

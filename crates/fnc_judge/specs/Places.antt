@@ -1,5 +1,5 @@
 -- The slots of a level, read off the names of its devices.
-use Rattle.std.specs.Prelude.{ℕ, List, [], ◌∷◌, Bool, ◌+◌, Option, Some, None, is_none, option_map, option_and_then}
+use Rattle.std.specs.Prelude.{ℕ, List, [], ◌∷◌, Bool, ◌+◌, Option, is_none, option_map, option_and_then}
 use Rattle.std.specs.List.{list_any, cons_option}
 use Rattle.fnc_journal.specs.declared.entry.Kind.{Kind}
 use Rattle.fnc_journal.specs.History.{History}

@@ -1,5 +1,5 @@
 -- What the runs of an operation say of a slot, gathered in one record.
-use Rattle.std.specs.Prelude.{ℕ, List, [], ◌∷◌, Bool, true, false, ◌==◌, ◌+◌, ◌||◌, ◌&&◌, not, if◌then◌else◌, min, Option, Some, None, is_some, option_map, unwrap_or}
+use Rattle.std.specs.Prelude.{ℕ, List, Bool, ◌==◌, ◌+◌, ◌||◌, ◌&&◌, not, if◌then◌else◌, min, Option, Some, None, is_some, option_map, unwrap_or}
 use Rattle.fnc_journal.specs.declared.entry.Event.{Event}
 use Rattle.fnc_journal.specs.declared.entry.Exit.{Exit}
 use Rattle.fnc_journal.specs.declared.entry.Slot.{Slot}

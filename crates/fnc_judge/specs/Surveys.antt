@@ -5,7 +5,7 @@ use Rattle.fnc_journal.specs.declared.entry.Kind.{Kind}
 use Rattle.fnc_journal.specs.declared.entry.LevelTarget.{LevelTarget}
 use Rattle.fnc_journal.specs.declared.entry.Scope.{Scope}
 use Rattle.fnc_journal.specs.History.{History}
-use Rattle.fnc_journal.specs.Levels.{Level, pattern_at, levels}
+use Rattle.fnc_journal.specs.Levels.{Level, pattern_at}
 use Rattle.fnc_journal.specs.Plan.{plan_level}
 use Rattle.fnc_journal.specs.Slots.{Task, Rank, Operation, rank_of}
 use Rattle.fnc_journal.specs.Acts.{Act}

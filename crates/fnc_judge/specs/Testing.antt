@@ -1,5 +1,5 @@
 -- Parts of the rules of an entry.
-use Rattle.std.specs.Prelude.{ℕ, ◌∷◌, Bool, false, ◌==◌, ◌&&◌, Option, Some, None}
+use Rattle.std.specs.Prelude.{ℕ, Bool, false, ◌==◌, ◌&&◌, Option, Some, None}
 use Rattle.fnc_journal.specs.declared.entry.Entry.{Entry}
 use Rattle.fnc_journal.specs.declared.entry.Event.{Event}
 use Rattle.fnc_journal.specs.declared.entry.Kind.{Kind}

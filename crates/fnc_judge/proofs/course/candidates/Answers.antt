@@ -1,12 +1,12 @@
-use Rattle.std.proofs.Common.{ℕ, ◌≡◌, ◌≤◌, ◌+◌, sym, ap, subst, ◌∙◌, arith, length, Option, Some, None}
+use Rattle.std.proofs.Common.{◌≡◌, ◌+◌, sym, ap, ◌∙◌, arith, length, Some, None}
 use Rattle.fnc_journal.specs.Device.{Device}
 use Rattle.fnc_journal.specs.Missing.{first_of}
 use Rattle.fnc_journal.specs.Acts.{acts}
 use Rattle.fnc_judge.specs.declared.candidates.After.{After}
 use Rattle.fnc_judge.specs.Keyed.{Keyed, key, later}
-use Rattle.fnc_judge.specs.Pursued.{operation, candidates_of}
+use Rattle.fnc_judge.specs.Pursued.{operation}
 use Rattle.fnc_judge.specs.Courses.{Course, coursed_all, coursed_any, start}
-use Rattle.fnc_judge.proofs.Queue.{keyed_of, left, left-all, left-more, left-none, left-past, room-all, room-more, queried_at, index-more}
+use Rattle.fnc_judge.proofs.Queue.{keyed_of, left, left-all, left-more, room-all, room-more, queried_at, index-more}
 use Rattle.fnc_judge.proofs.course.candidates.Goals as goal
 
 pub loop-place-init : goal.loop-place-init

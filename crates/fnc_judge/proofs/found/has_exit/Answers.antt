@@ -1,6 +1,5 @@
-use Rattle.std.proofs.Common.{◌≡◌, ◌+◌, sym, ap, ◌∙◌, arith, ◌||◌}
+use Rattle.std.proofs.Common.{sym, ap, ◌∙◌, arith, ◌||◌}
 use Rattle.fnc_journal.specs.History.{History}
-use Rattle.fnc_journal.specs.Prefix.{prefix}
 use Rattle.fnc_journal.proofs.Prefixes.{prefix-all, prefix-more, prefix-none}
 use Rattle.fnc_journal.specs.Found.{has_exit, is_exit_of}
 use Rattle.fnc_judge.proofs.found.has_exit.Goals as goal

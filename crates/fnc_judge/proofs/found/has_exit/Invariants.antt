@@ -1,6 +1,6 @@
-use Rattle.std.proofs.Common.{◌≡◌, ◌||◌}
+use Rattle.std.proofs.Common.{◌≡◌}
 use Rattle.fnc_journal.specs.Prefix.{prefix}
-use Rattle.fnc_journal.specs.Found.{has_exit, is_exit_of}
+use Rattle.fnc_journal.specs.Found.{has_exit}
 use Rattle.fnc_judge.proofs.found.has_exit.Given as goal
 
 -- what the entries so far say

@@ -1,6 +1,5 @@
-use Rattle.std.proofs.Common.{◌≡◌, ◌+◌, sym, ap, ◌∙◌, arith, ◌||◌}
+use Rattle.std.proofs.Common.{sym, ap, ◌∙◌, arith, ◌||◌}
 use Rattle.fnc_journal.specs.History.{History}
-use Rattle.fnc_journal.specs.Prefix.{prefix}
 use Rattle.fnc_journal.proofs.Prefixes.{prefix-all, prefix-more, prefix-none}
 use Rattle.fnc_journal.specs.Found.{is_answered, is_reply_to}
 use Rattle.fnc_judge.proofs.found.is_answered.Goals as goal

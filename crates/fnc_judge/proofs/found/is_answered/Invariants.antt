@@ -1,6 +1,6 @@
-use Rattle.std.proofs.Common.{◌≡◌, ◌||◌}
+use Rattle.std.proofs.Common.{◌≡◌}
 use Rattle.fnc_journal.specs.Prefix.{prefix}
-use Rattle.fnc_journal.specs.Found.{is_answered, is_reply_to}
+use Rattle.fnc_journal.specs.Found.{is_answered}
 use Rattle.fnc_judge.proofs.found.is_answered.Given as goal
 
 -- what the entries so far say

@@ -1,9 +1,6 @@
 use Rattle.std.proofs.Common.{◌≡◌}
 use Rattle.fnc_journal.specs.Prefix.{prefix}
-use Rattle.fnc_journal.specs.Missing.{or_here}
 use Rattle.fnc_journal.specs.Operations.{lead_of}
-use Rattle.fnc_judge.specs.Led.{lead_here}
-use Rattle.fnc_judge.proofs.Leads.{lead-more}
 use Rattle.fnc_judge.proofs.found.lead.Given as goal
 
 -- what the entries so far say

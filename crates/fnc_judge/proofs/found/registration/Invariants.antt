@@ -1,8 +1,7 @@
 use Rattle.std.proofs.Common.{◌≡◌}
 use Rattle.fnc_journal.specs.Prefix.{prefix}
 use Rattle.std.specs.Option.{option_copied}
-use Rattle.fnc_journal.specs.Missing.{or_here}
-use Rattle.fnc_journal.specs.Found.{registration, registration_here}
+use Rattle.fnc_journal.specs.Found.{registration}
 use Rattle.fnc_judge.proofs.found.registration.Given as goal
 
 -- what the entries so far say

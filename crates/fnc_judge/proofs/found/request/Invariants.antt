@@ -1,7 +1,6 @@
 use Rattle.std.proofs.Common.{◌≡◌}
 use Rattle.fnc_journal.specs.Prefix.{prefix}
-use Rattle.fnc_journal.specs.Missing.{or_here}
-use Rattle.fnc_journal.specs.Found.{asked, asked_here}
+use Rattle.fnc_journal.specs.Found.{asked}
 use Rattle.fnc_judge.proofs.found.request.Given as goal
 
 -- what the entries so far say

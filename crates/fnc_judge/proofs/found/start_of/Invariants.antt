@@ -1,7 +1,6 @@
 use Rattle.std.proofs.Common.{◌≡◌}
 use Rattle.fnc_journal.specs.Prefix.{prefix}
-use Rattle.fnc_journal.specs.Missing.{or_here}
-use Rattle.fnc_journal.specs.Found.{started, started_here}
+use Rattle.fnc_journal.specs.Found.{started}
 use Rattle.fnc_judge.proofs.found.start_of.Given as goal
 
 -- what the entries so far say

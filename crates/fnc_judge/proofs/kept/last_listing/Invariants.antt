@@ -1,8 +1,6 @@
 use Rattle.std.proofs.Common.{◌≡◌}
 use Rattle.fnc_journal.specs.Prefix.{prefix}
-use Rattle.std.specs.Prelude.{Option}
-use Rattle.std.specs.Option.{option_or}
-use Rattle.fnc_journal.specs.Kept.{Listing, last_listing, listing_here}
+use Rattle.fnc_journal.specs.Kept.{last_listing}
 use Rattle.fnc_judge.proofs.kept.last_listing.Given as goal
 
 -- what the entries so far say

@@ -1,8 +1,7 @@
-use Rattle.std.proofs.Common.{◌≡◌, ◌+◌, sym, ap, ◌∙◌, arith, length, ◌<◌}
+use Rattle.std.proofs.Common.{sym, ap, ◌∙◌, arith}
 use Rattle.fnc_journal.specs.History.{History}
 use Rattle.fnc_journal.specs.Prefix.{prefix}
 use Rattle.fnc_journal.proofs.Prefixes.{prefix-all, prefix-more, prefix-none}
-use Rattle.std.specs.Prelude.{find}
 use Rattle.fnc_journal.specs.Levels.{levels}
 use Rattle.fnc_judge.specs.Indices.{level_step}
 use Rattle.fnc_judge.proofs.Prefixed.{prefix-length}

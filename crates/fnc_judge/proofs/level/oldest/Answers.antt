@@ -2,7 +2,7 @@ use Rattle.std.proofs.Common.{ℕ, ◌≡◌, ◌+◌, sym, ap, ◌∙◌, arith
 use Rattle.fnc_journal.specs.Missing.{least_of}
 use Rattle.fnc_journal.specs.Levels.{Level, levels, oldest}
 use Rattle.fnc_judge.specs.Indices.{from, oldest_with}
-use Rattle.fnc_judge.proofs.Rising.{rising, from-none, from-past, from-more, before_it}
+use Rattle.fnc_judge.proofs.Rising.{rising, from-none, from-past, from-more}
 use Rattle.fnc_judge.proofs.Oldest.{oldest-more, oldest-last}
 use Rattle.fnc_judge.proofs.level.oldest.Goals as goal
 

@@ -1,6 +1,5 @@
-use Rattle.std.proofs.Common.{◌≡◌, ◌+◌, sym, ap, ◌∙◌, arith, ℕ, max}
+use Rattle.std.proofs.Common.{sym, ap, ◌∙◌, arith, ℕ, max}
 use Rattle.fnc_journal.specs.History.{History}
-use Rattle.fnc_journal.specs.Prefix.{prefix}
 use Rattle.fnc_journal.proofs.Prefixes.{prefix-all, prefix-more, prefix-none}
 use Rattle.fnc_judge.specs.Indices.{top, top_here}
 use Rattle.fnc_judge.proofs.level.top_of.Goals as goal

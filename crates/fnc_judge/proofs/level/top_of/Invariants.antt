@@ -1,6 +1,6 @@
-use Rattle.std.proofs.Common.{◌≡◌, ℕ, max}
+use Rattle.std.proofs.Common.{◌≡◌}
 use Rattle.fnc_journal.specs.Prefix.{prefix}
-use Rattle.fnc_judge.specs.Indices.{top, top_here}
+use Rattle.fnc_judge.specs.Indices.{top}
 use Rattle.fnc_judge.proofs.level.top_of.Given as goal
 
 -- what the entries so far say

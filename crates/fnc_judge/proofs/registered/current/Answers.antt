@@ -1,6 +1,5 @@
-use Rattle.std.proofs.Common.{◌≡◌, ◌+◌, sym, ap, ◌∙◌, arith}
+use Rattle.std.proofs.Common.{sym, ap, ◌∙◌, arith}
 use Rattle.fnc_journal.specs.History.{History}
-use Rattle.fnc_journal.specs.Prefix.{prefix}
 use Rattle.fnc_journal.proofs.Prefixes.{prefix-all, prefix-more, prefix-none}
 use Rattle.fnc_journal.specs.Registered.{current, current_after}
 use Rattle.fnc_judge.proofs.registered.current.Goals as goal

@@ -1,6 +1,6 @@
 use Rattle.std.proofs.Common.{◌≡◌}
 use Rattle.fnc_journal.specs.Prefix.{prefix}
-use Rattle.fnc_journal.specs.Registered.{current, current_after}
+use Rattle.fnc_journal.specs.Registered.{current}
 use Rattle.fnc_judge.proofs.registered.current.Given as goal
 
 -- what the entries so far say

@@ -1,7 +1,6 @@
 use Rattle.std.proofs.Common.{◌≡◌}
 use Rattle.fnc_journal.specs.Prefix.{prefix}
-use Rattle.fnc_journal.specs.Missing.{least_of}
-use Rattle.fnc_journal.specs.Registered.{least_registration, named_here}
+use Rattle.fnc_journal.specs.Registered.{least_registration}
 use Rattle.fnc_judge.proofs.registered.least_registration.Given as goal
 
 -- what the entries so far say

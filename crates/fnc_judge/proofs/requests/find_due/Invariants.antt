@@ -1,10 +1,9 @@
 use Rattle.std.proofs.Common.{◌≡◌}
 use Rattle.fnc_journal.specs.Prefix.{prefix}
-use Rattle.std.specs.Prelude.{Option, find}
+use Rattle.std.specs.Prelude.{find}
 use Rattle.fnc_journal.specs.Operations.{is_due}
-use Rattle.fnc_judge.specs.Pursued.{Pursued, operation}
-use Rattle.fnc_judge.specs.Opened.{found_after, opened, opens}
-use Rattle.fnc_judge.proofs.Opening.{found-more}
+use Rattle.fnc_judge.specs.Pursued.{operation}
+use Rattle.fnc_judge.specs.Opened.{opens}
 use Rattle.fnc_judge.proofs.requests.find_due.Given as goal
 
 -- what the entries so far say

@@ -1,8 +1,6 @@
 use Rattle.std.proofs.Common.{◌≡◌}
 use Rattle.fnc_journal.specs.Prefix.{prefix}
-use Rattle.fnc_journal.specs.Missing.{or_here}
-use Rattle.fnc_judge.specs.Opened.{waiting, waiting_here}
-use Rattle.fnc_judge.proofs.Opening.{waiting-more}
+use Rattle.fnc_judge.specs.Opened.{waiting}
 use Rattle.fnc_judge.proofs.requests.first_waiting.Given as goal
 
 -- what the entries so far say

@@ -1,9 +1,6 @@
-use Rattle.std.proofs.Common.{◌≡◌, cond, length, ◌≤◌}
+use Rattle.std.proofs.Common.{◌≡◌}
 use Rattle.fnc_journal.specs.Prefix.{prefix}
 use Rattle.fnc_journal.specs.Acts.{acts, runs}
-use Rattle.fnc_judge.specs.Testing.{runs_here}
-use Rattle.fnc_judge.proofs.Prefixed.{prefix-most}
-use Rattle.fnc_judge.proofs.Testings.{runs-more, runs-most}
 use Rattle.fnc_judge.proofs.rules.runs.Given as goal
 
 -- what the entries so far say

@@ -1,10 +1,7 @@
 use Rattle.std.proofs.Common.{◌≡◌}
 use Rattle.fnc_journal.specs.Prefix.{prefix}
-use Rattle.fnc_journal.specs.Acts.{acts, act_here}
-use Rattle.fnc_judge.specs.declared.seen.Seen.{Seen}
-use Rattle.fnc_judge.specs.Seen.{seen_of, seen_with}
-use Rattle.fnc_judge.proofs.Prefixed.{prefix-most}
-use Rattle.fnc_judge.proofs.Looks.{seen-more, failed-most}
+use Rattle.fnc_journal.specs.Acts.{acts}
+use Rattle.fnc_judge.specs.Seen.{seen_of}
 use Rattle.fnc_judge.proofs.seen.looked_at.Given as goal
 
 -- what the entries so far say

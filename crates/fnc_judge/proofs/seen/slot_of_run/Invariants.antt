@@ -1,9 +1,6 @@
 use Rattle.std.proofs.Common.{◌≡◌}
 use Rattle.fnc_journal.specs.Prefix.{prefix}
-use Rattle.fnc_journal.specs.Missing.{or_here}
 use Rattle.fnc_journal.specs.Acts.{acts, slot_of_run}
-use Rattle.fnc_judge.specs.Seen.{begun_slot}
-use Rattle.fnc_judge.proofs.Looks.{slot-more}
 use Rattle.fnc_judge.proofs.seen.slot_of_run.Given as goal
 
 -- what the entries so far say

@@ -1,9 +1,7 @@
-use Rattle.std.proofs.Common.{◌≡◌, cond, length, ◌≤◌}
+use Rattle.std.proofs.Common.{◌≡◌}
 use Rattle.fnc_journal.specs.Prefix.{prefix}
 use Rattle.fnc_journal.specs.Startable.{begun_runs}
-use Rattle.fnc_judge.specs.Opened.{alive_in, counts_here}
-use Rattle.fnc_judge.proofs.Prefixed.{prefix-most}
-use Rattle.fnc_judge.proofs.Opening.{alive-more, alive-most}
+use Rattle.fnc_judge.specs.Opened.{alive_in}
 use Rattle.fnc_judge.proofs.startable.alive.Given as goal
 
 -- what the entries so far say

@@ -1,10 +1,9 @@
 use Rattle.std.proofs.Common.{◌≡◌}
 use Rattle.fnc_journal.specs.Prefix.{prefix}
-use Rattle.std.specs.Prelude.{Option, map}
-use Rattle.fnc_journal.specs.Startable.{Startable, first_among, soonest}
-use Rattle.fnc_judge.specs.Pursued.{Pursued, operation}
-use Rattle.fnc_judge.specs.Opened.{opened, opens, startable_any}
-use Rattle.fnc_judge.proofs.Opening.{first-more, opens-all}
+use Rattle.std.specs.Prelude.{map}
+use Rattle.fnc_journal.specs.Startable.{first_among}
+use Rattle.fnc_judge.specs.Pursued.{operation}
+use Rattle.fnc_judge.specs.Opened.{opens}
 use Rattle.fnc_judge.proofs.startable.first.Given as goal
 
 -- what the entries so far say

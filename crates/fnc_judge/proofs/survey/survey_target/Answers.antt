@@ -1,4 +1,4 @@
-use Rattle.std.proofs.Common.{ℕ, List, ◌≡◌, ◌+◌, sym, ap, ◌∙◌, arith, Option}
+use Rattle.std.proofs.Common.{List, ◌+◌, sym, ap, ◌∙◌, arith, Option}
 use Rattle.std.specs.Prelude.{option_map}
 use Rattle.fnc_journal.specs.History.{History}
 use Rattle.fnc_journal.specs.Acts.{acts}

@@ -1,8 +1,7 @@
-use Rattle.std.proofs.Common.{ℕ, ◌+◌, ◌≡◌, ◌<◌, ◌↔◌, sym, ap, ◌∙◌, arith, length, Option, Some, None}
-use Rattle.fnc_journal.specs.declared.outcome.Rule.{Rule}
+use Rattle.std.proofs.Common.{◌+◌, ◌≡◌, sym, ap, ◌∙◌, arith, Some, None}
 use Rattle.fnc_journal.specs.History.{History}
 use Rattle.fnc_journal.specs.Prefix.{prefix}
-use Rattle.fnc_journal.specs.Lawful.{Lawful, fault, broken}
+use Rattle.fnc_journal.specs.Lawful.{fault, broken}
 use Rattle.fnc_journal.proofs.Prefixes.{prefix-all, prefix-none}
 use Rattle.fnc_judge.specs.declared.verdict.Verdict.{Verdict}
 use Rattle.fnc_judge.proofs.Firsts.{fault-next, fault-prefix, lawful-none}

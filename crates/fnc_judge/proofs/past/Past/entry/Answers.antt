@@ -1,8 +1,8 @@
-use Rattle.std.proofs.Common.{◌≡◌, ◌≤◌, ◌<◌, sym, ap, ◌∙◌, arith, length, subst, Some}
+use Rattle.std.proofs.Common.{◌<◌, sym, ap, ◌∙◌, arith, length, subst}
 use Rattle.fnc_journal.specs.History.{History}
 use Rattle.fnc_journal.specs.Found.{entry_at}
 use Rattle.fnc_journal.specs.Prefix.{prefix}
-use Rattle.fnc_judge.proofs.Prefixed.{prefix-length, prefix-prefix, entry_at-prefix}
+use Rattle.fnc_judge.proofs.Prefixed.{prefix-length, entry_at-prefix}
 use Rattle.fnc_judge.proofs.past.Past.entry.Goals as goal
 
 pub entry-requires : goal.entry-requires

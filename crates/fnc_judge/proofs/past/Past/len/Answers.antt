@@ -1,8 +1,5 @@
-use Rattle.std.proofs.Common.{◌≡◌, ◌≤◌, ◌<◌, sym, ap, ◌∙◌, arith, length, subst, Some}
-use Rattle.fnc_journal.specs.History.{History}
-use Rattle.fnc_journal.specs.Found.{entry_at}
-use Rattle.fnc_journal.specs.Prefix.{prefix}
-use Rattle.fnc_judge.proofs.Prefixed.{prefix-length, prefix-prefix, entry_at-prefix}
+use Rattle.std.proofs.Common.{sym, ap, ◌∙◌, length}
+use Rattle.fnc_judge.proofs.Prefixed.{prefix-length}
 use Rattle.fnc_judge.proofs.past.Past.len.Goals as goal
 
 pub returns : goal.returns
