@@ -36,9 +36,9 @@ course-survey o m acts s (c ∷ cs) = course-survey o m acts (coursed o m acts s
   where
     go : (b : Bool) →
         surveyed_all o m acts (cond b (surveyed o m acts s.survey (rank o.kind s.index (Some c.device ∷ []))) s.survey)
-          (ranked_from o.kind (cond b (s.index + 1) s.index) (filter (λ (c : QueriedDevice). capable_query o acts c.query) cs))
+        (ranked_from o.kind (cond b (s.index + 1) s.index) (filter (λ (c : QueriedDevice). capable_query o acts c.query) cs))
         ≡ surveyed_all o m acts s.survey
-          (ranked_from o.kind s.index (cond b (c ∷ filter (λ (c : QueriedDevice). capable_query o acts c.query) cs) (filter (λ (c : QueriedDevice). capable_query o acts c.query) cs)))
+        (ranked_from o.kind s.index (cond b (c ∷ filter (λ (c : QueriedDevice). capable_query o acts c.query) cs) (filter (λ (c : QueriedDevice). capable_query o acts c.query) cs)))
     go true = refl
     go false = refl
 
@@ -165,8 +165,8 @@ due-is p m acts =
         let any = survey-any o m acts none (ranks o m acts) ∙ ap has_any e in
         let all = ap is_none kept ∙ none-kept (first_kept o m acts (ranks o m acts)) ∙ sym (lost-all o m acts (ranks o m acts)) ∙ ap (list_all (lost o m acts)) e in
         rw any (choose (is_none (queries_of o m acts).unconcluded && is_none (survey_of o m acts).kept) Due.Levels
-          ∙ ap (λ b. cond (b && is_none (survey_of o m acts).kept) (Some Answer.Levels) (time_due o m)) (sym (concluded-none o m acts))
-          ∙ ap (λ b. cond (queries_concluded o m acts && b) (Some Answer.Levels) (time_due o m)) all)
+        ∙ ap (λ b. cond (b && is_none (survey_of o m acts).kept) (Some Answer.Levels) (time_due o m)) (sym (concluded-none o m acts))
+        ∙ ap (λ b. cond (queries_concluded o m acts && b) (Some Answer.Levels) (time_due o m)) all)
 
 -- since when it stands there
 pub since-is : (p : Pursued) (m : ℕ) (acts : List Act) → since_by (operation p).begin (course_of p m acts) ≡ since (operation p) m acts

@@ -193,7 +193,7 @@ alive-append all l (d ∷ ds) b = go (not (has_exit d.run all)) (lane d.reg all 
   where
     go : (x y : Bool) → (lane d.reg all == l) ≡ y → (z : Bool) → cond z (alive_in all l ds + 1) (alive_in all l ds) ≡ alive_in all l (ds ++ b ∷ []) →
         cond z (length (filter (λ (b : Begun). lane b.reg all == l) (cond x (d ∷ filter (λ (b : Begun). not (has_exit b.run all)) ds) (filter (λ (b : Begun). not (has_exit b.run all)) ds))) + 1)
-          (length (filter (λ (b : Begun). lane b.reg all == l) (cond x (d ∷ filter (λ (b : Begun). not (has_exit b.run all)) ds) (filter (λ (b : Begun). not (has_exit b.run all)) ds))))
+        (length (filter (λ (b : Begun). lane b.reg all == l) (cond x (d ∷ filter (λ (b : Begun). not (has_exit b.run all)) ds) (filter (λ (b : Begun). not (has_exit b.run all)) ds))))
         ≡ length (filter (λ (b : Begun). lane b.reg all == l) (cond x (d ∷ filter (λ (b : Begun). not (has_exit b.run all)) (ds ++ b ∷ [])) (filter (λ (b : Begun). not (has_exit b.run all)) (ds ++ b ∷ []))))
     go true true e true ih = rw e (let n : alive_in all l ds + 1 ≡ alive_in all l (ds ++ b ∷ []) = ih in omega (arith, n))
     go true true e false ih = rw e (let n : alive_in all l ds ≡ alive_in all l (ds ++ b ∷ []) = ih in omega (arith, n))

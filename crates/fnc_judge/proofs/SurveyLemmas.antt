@@ -85,8 +85,12 @@ standing-same o m acts l = rw (gathered-unconfirmed o m acts nothing l.firsts, g
 
 pub done-same : (o : Operation) (m : ℕ) (acts : List Act) (l : Rank) → (kept_of o m acts l).done ≡ is_done o m acts l
 done-same o m acts l =
-    rw (gathered-unconfirmed o m acts nothing l.firsts, gathered-unconcluded o m acts nothing l.ons,
-      all-find (λ t. confirmed t o.over acts) l.firsts, all-find (λ t. concluded t o.over m acts) l.ons) refl
+    rw (
+      gathered-unconfirmed o m acts nothing l.firsts,
+      gathered-unconcluded o m acts nothing l.ons,
+      all-find (λ t. confirmed t o.over acts) l.firsts,
+      all-find (λ t. concluded t o.over m acts) l.ons,
+    ) refl
 
 -- where all are confirmed none is lost
 none-lost : (o : Operation) (m : ℕ) (acts : List Act) (ts : List Task) → list_all (λ t. confirmed t o.over acts) ts ≡ true → list_any (is_lost_by o m acts) ts ≡ false

@@ -234,7 +234,11 @@ fn standing_by(course: Course<'_>) -> Option<Task<'_>>
 }
 
 /// The slot at which an operation stands at a moment.
-pub(crate) fn standing<'a>(operation: &Operation<'a>, moment: u64, past: &Past<'_>) -> Option<Task<'a>>
+pub(crate) fn standing<'a>(
+    operation: &Operation<'a>,
+    moment: u64,
+    past: &Past<'_>,
+) -> Option<Task<'a>>
     ensures { result ≡ Standing.standing (Pursued.operation operation.now) moment (Acts.acts operation.now.req past.now) }
 {
     standing_by(course_of(operation, moment, past))
@@ -323,7 +327,12 @@ fn delay(operation: &Operation<'_>, task: &Task<'_>) -> u64
 }
 
 /// When the next try of a slot is ready.
-pub(crate) fn ready(operation: &Operation<'_>, moment: u64, past: &Past<'_>, task: &Task<'_>) -> Option<u128>
+pub(crate) fn ready(
+    operation: &Operation<'_>,
+    moment: u64,
+    past: &Past<'_>,
+    task: &Task<'_>,
+) -> Option<u128>
     ensures { result ≡ Standing.ready (Pursued.operation operation.now) moment (Acts.acts operation.now.req past.now) task.now }
 {
     let seen = looked_at(past, operation.req(), task, operation.over());

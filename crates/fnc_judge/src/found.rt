@@ -108,7 +108,12 @@ fn asked_here<'a>(entry: &'a Entry, before: Past<'a>, req: u32) -> Option<Asked<
     }
 }
 
-fn asked_after<'a>(earlier: Option<Asked<'a>>, entry: &'a Entry, before: Past<'a>, req: u32) -> Option<Asked<'a>>
+fn asked_after<'a>(
+    earlier: Option<Asked<'a>>,
+    entry: &'a Entry,
+    before: Past<'a>,
+    req: u32,
+) -> Option<Asked<'a>>
     ensures { result ≡ or_here earlier.entry (Found.asked_here req entry.now.moment before.entry entry.now.event) }
 {
     match earlier {
@@ -135,7 +140,9 @@ fn lead_after(earlier: Option<u32>, event: &Event, req: u32) -> Option<u32>
         (
             None,
             Event::Ask {
-                req: number, lead, ..
+                req: number,
+                lead,
+                ..
             },
         ) if req == number.0 => Some(lead.0),
         _ => earlier,

@@ -38,13 +38,7 @@ fn first_of<'a>(earlier: Option<Task<'a>>, passes: bool, task: &Task<'a>) -> Opt
 {
     match earlier {
         Some(first) => Some(first),
-        None => {
-            if passes {
-                None
-            } else {
-                Some(task.again())
-            }
-        }
+        None => { if passes { None } else { Some(task.again()) } }
     }
 }
 
@@ -80,7 +74,13 @@ impl<'a> Gathered<'a> {
     }
 
     /// With one more slot of an operation.
-    pub fn with(self, operation: &Operation<'_>, moment: u64, past: &Past<'_>, task: &Task<'a>) -> Gathered<'a>
+    pub fn with(
+        self,
+        operation: &Operation<'_>,
+        moment: u64,
+        past: &Past<'_>,
+        task: &Task<'a>,
+    ) -> Gathered<'a>
         ensures { result ≡ Tours.gathered (Pursued.operation operation.now) moment (acts operation.now.req past.now) self.entry task.now }
     {
         let seen = looked_at(past, operation.req(), task, operation.over());
@@ -88,7 +88,13 @@ impl<'a> Gathered<'a> {
     }
 
     /// With one more slot of an operation, if there is one.
-    pub fn with_any(self, operation: &Operation<'_>, moment: u64, past: &Past<'_>, task: Option<Task<'a>>) -> Gathered<'a>
+    pub fn with_any(
+        self,
+        operation: &Operation<'_>,
+        moment: u64,
+        past: &Past<'_>,
+        task: Option<Task<'a>>,
+    ) -> Gathered<'a>
         ensures { result ≡ Tours.gathered_any (Pursued.operation operation.now) moment (acts operation.now.req past.now) self.entry task.entry }
     {
         match task {

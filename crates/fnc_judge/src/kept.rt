@@ -113,7 +113,12 @@ fn kept_until(keep: u64, moment: u64, listing: Option<Listing>) -> Option<bool>
 }
 
 /// The answer that a device has kept for a node at a moment: whether the node is in its list.
-pub(crate) fn kept_answer(device: &Device<'_>, target: &str, moment: u64, before: &Past<'_>) -> Option<bool>
+pub(crate) fn kept_answer(
+    device: &Device<'_>,
+    target: &str,
+    moment: u64,
+    before: &Past<'_>,
+) -> Option<bool>
     ensures { result ≡ Kept.kept_answer device.now target.now moment before.now }
 {
     match device.definition.check {

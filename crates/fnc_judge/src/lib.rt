@@ -18,6 +18,8 @@ mod seen;
 mod startable;
 mod survey;
 mod task;
+#[cfg(test)]
+mod tests;
 mod verdict;
 
 pub use verdict::{Verdict, judge};

@@ -30,7 +30,12 @@ fn confirms(operation: &Operation<'_>, before: &Past<'_>, event: &Event) -> bool
     }
 }
 
-fn confirmed_after(earlier: bool, operation: &Operation<'_>, before: &Past<'_>, event: &Event) -> bool
+fn confirmed_after(
+    earlier: bool,
+    operation: &Operation<'_>,
+    before: &Past<'_>,
+    event: &Event,
+) -> bool
     ensures { result ≡ (Dues.confirms (Pursued.operation operation.now) before.now event.now || earlier) }
 {
     confirms(operation, before, event) || earlier
@@ -72,14 +77,10 @@ fn request_here(event: &Event, req: u32) -> Option<u32>
 {
     match event {
         Event::Ask {
-            req: number, lead, ..
-        } => {
-            if req == lead.0 {
-                Some(number.0)
-            } else {
-                None
-            }
-        }
+            req: number,
+            lead,
+            ..
+        } => { if req == lead.0 { Some(number.0) } else { None } }
         _ => None,
     }
 }
@@ -99,7 +100,7 @@ fn waiting_after(earlier: Option<u32>, past: &Past<'_>, req: u32, event: &Event)
     ensures { result ≡ or_here earlier (waiting_here past.now req event.now) }
 {
     match earlier {
-        Some(first) => Some(first),
+        Some(earliest) => Some(earliest),
         None => waiting_by(past, req, event),
     }
 }
@@ -138,13 +139,7 @@ fn operation_here(event: &Event) -> Option<u32>
     ensures { result ≡ Operations.operation_here event.now }
 {
     match event {
-        Event::Ask { req, lead, .. } => {
-            if req.0 == lead.0 {
-                Some(req.0)
-            } else {
-                None
-            }
-        }
+        Event::Ask { req, lead, .. } => { if req.0 == lead.0 { Some(req.0) } else { None } }
         _ => None,
     }
 }
@@ -231,7 +226,13 @@ fn is_on(task: &Option<Task<'_>>) -> bool
     }
 }
 
-fn is_joinable(past: &Past<'_>, moment: u64, kind: Kind, target: &str, operation: &Operation<'_>) -> bool
+fn is_joinable(
+    past: &Past<'_>,
+    moment: u64,
+    kind: Kind,
+    target: &str,
+    operation: &Operation<'_>,
+) -> bool
     ensures { result ≡ Operations.is_joinable past.now moment kind target.now (Pursued.operation operation.now) }
 {
     same_kind_as(kind, operation.kind())
@@ -262,7 +263,12 @@ fn joinable_after<'a>(
     }
 }
 
-fn find_joinable<'a>(past: &Past<'a>, moment: u64, kind: Kind, target: &str) -> Option<Operation<'a>>
+fn find_joinable<'a>(
+    past: &Past<'a>,
+    moment: u64,
+    kind: Kind,
+    target: &str,
+) -> Option<Operation<'a>>
     ensures { result ≡ find (λ p. Operations.is_joinable past.now moment kind target.now (Pursued.operation p)) (opens past.now past.now) }
 {
     let mut found = None;
@@ -274,7 +280,12 @@ fn find_joinable<'a>(past: &Past<'a>, moment: u64, kind: Kind, target: &str) -> 
 }
 
 /// The operation that a request joins, if there is one.
-pub(crate) fn joined<'a>(past: &Past<'a>, moment: u64, kind: Kind, target: &str) -> Option<Operation<'a>>
+pub(crate) fn joined<'a>(
+    past: &Past<'a>,
+    moment: u64,
+    kind: Kind,
+    target: &str,
+) -> Option<Operation<'a>>
     ensures { option_map Pursued.operation result ≡ Operations.joined past.now moment kind target.now }
 {
     find_joinable(past, moment, kind, target)

@@ -324,7 +324,7 @@ fn continues(pending: Option<Pending>, entry: &Entry, past: &Past<'_>) -> bool
                 && same_answer(*answer, pending.answer)
                 && entry.moment == pending.moment
         }
-        _ => false,
+        (Some(_), _) => false,
     }
 }
 

@@ -160,7 +160,15 @@ impl Seen {
     }
 
     /// With one more exit.
-    fn ended(self, task: &Task<'_>, over: u128, moment: u64, slot: Slot, exit: Exit, listed: bool) -> Seen
+    fn ended(
+        self,
+        task: &Task<'_>,
+        over: u128,
+        moment: u64,
+        slot: Slot,
+        exit: Exit,
+        listed: bool,
+    ) -> Seen
         requires { self.failed < 2 ^ 32 - 1 }
         ensures { result ≡ seen_ended task.now over self moment slot exit listed }
     {

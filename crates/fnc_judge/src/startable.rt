@@ -123,7 +123,11 @@ fn start_at<'a>(past: &Past<'a>, moment: u64, operation: Operation<'a>) -> Optio
     startable_ready(past, moment, operation, task, ready)
 }
 
-fn startable_of<'a>(past: &Past<'a>, moment: u64, operation: Option<Operation<'a>>) -> Option<Startable<'a>>
+fn startable_of<'a>(
+    past: &Past<'a>,
+    moment: u64,
+    operation: Option<Operation<'a>>,
+) -> Option<Startable<'a>>
     ensures { result ≡ startable_any past.now moment operation.entry }
 {
     let operation = operation?;

@@ -67,7 +67,13 @@ fn first_at<'a>(
     Some(act_task(split, kind, level, place, &device))
 }
 
-fn on_at<'a>(kind: Kind, before: &Past<'a>, level: u64, place: usize, name: &str) -> Option<Task<'a>>
+fn on_at<'a>(
+    kind: Kind,
+    before: &Past<'a>,
+    level: u64,
+    place: usize,
+    name: &str,
+) -> Option<Task<'a>>
     ensures { result ≡ option_and_then (Slots.on_task level place) (placed kind before.now name.now) }
 {
     let device = placed_at(kind, before, name)?;
@@ -325,7 +331,11 @@ fn scoped_target<'a>(scope: Scope, target: &'a str, before: &Past<'a>) -> Option
 }
 
 /// What is gathered of the levels of an operation's plan.
-pub(crate) fn survey_levels<'a>(operation: &Operation<'a>, moment: u64, past: &Past<'_>) -> Survey<'a>
+pub(crate) fn survey_levels<'a>(
+    operation: &Operation<'a>,
+    moment: u64,
+    past: &Past<'_>,
+) -> Survey<'a>
     ensures { result ≡ Surveys.surveyed_all (Pursued.operation operation.now) moment (acts operation.now.req past.now) Surveys.none (Pursued.operation operation.now).levels }
 {
     match scoped_target(operation.scope(), operation.target(), &operation.before()) {

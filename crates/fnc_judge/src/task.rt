@@ -49,7 +49,13 @@ impl<'a> Model for Task<'a> {
 
 impl<'a> Task<'a> {
     /// A slot of a device.
-    pub fn on_device(phase: Phase, kind: Kind, level: u64, place: usize, device: &Device<'a>) -> Task<'a>
+    pub fn on_device(
+        phase: Phase,
+        kind: Kind,
+        level: u64,
+        place: usize,
+        device: &Device<'a>,
+    ) -> Task<'a>
         ensures { result ≡ Slots.task phase kind level place device.now }
     {
         Task {
@@ -185,7 +191,13 @@ fn acting(kind: Kind, definition: &Definition) -> Kind
 }
 
 /// An Off slot in a split reboot, else an Act slot.
-pub(crate) fn act_task<'a>(split: bool, kind: Kind, level: u64, place: usize, device: &Device<'a>) -> Task<'a>
+pub(crate) fn act_task<'a>(
+    split: bool,
+    kind: Kind,
+    level: u64,
+    place: usize,
+    device: &Device<'a>,
+) -> Task<'a>
     ensures { result ≡ Slots.act_task split kind level place device.now }
 {
     if split {

@@ -15,8 +15,8 @@ loop-place-init c =
     let first = ap (λ (s : Course). s.index) c.start-course.ensures in
     record {
       all =
-        ap (coursed_all (operation o) c.args.moment (acts o.req c.args.past.now) start) (left-all o)
-        ∙ ap (λ s. coursed_all (operation o) c.args.moment (acts o.req c.args.past.now) s (left o None 0)) (sym c.start-course.ensures);
+          ap (coursed_all (operation o) c.args.moment (acts o.req c.args.past.now) start) (left-all o)
+          ∙ ap (λ s. coursed_all (operation o) c.args.moment (acts o.req c.args.past.now) s (left o None 0)) (sym c.start-course.ensures);
       room = let all = room-all o in omega (arith, all);
       few = omega (arith, first);
     }
@@ -39,10 +39,10 @@ loop-place-preserved c =
     let most = index-more (operation o) c.args.moment xs c.loop-place.course (queried_at o c.loop-place.place c.in-Some.candidate.device) (c.loop-place.place + 1) c.loop-place.invariant.few in
     record {
       all =
-        c.loop-place.invariant.all
-        ∙ left-more (operation o) c.args.moment xs c.loop-place.course o c.loop-place.after c.in-Some.candidate c.loop-place.place found
-        ∙ ap (λ s. coursed_all (operation o) c.args.moment xs s (left o (Some (key c.in-Some.candidate)) (c.loop-place.place + 1))) (sym more)
-        ∙ ap (λ (k : After). coursed_all (operation o) c.args.moment xs c.with_candidate-course.result (left o (Some k) (c.loop-place.place + 1))) (sym c.key.ensures);
+          c.loop-place.invariant.all
+          ∙ left-more (operation o) c.args.moment xs c.loop-place.course o c.loop-place.after c.in-Some.candidate c.loop-place.place found
+          ∙ ap (λ s. coursed_all (operation o) c.args.moment xs s (left o (Some (key c.in-Some.candidate)) (c.loop-place.place + 1))) (sym more)
+          ∙ ap (λ (k : After). coursed_all (operation o) c.args.moment xs c.with_candidate-course.result (left o (Some k) (c.loop-place.place + 1))) (sym c.key.ensures);
       room = omega (arith, c.loop-place.invariant.room, fewer, later-key);
       few = omega (arith, index, most);
     }

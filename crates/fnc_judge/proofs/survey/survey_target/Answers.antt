@@ -16,7 +16,7 @@ loop-index-init c =
     record {
       before = c.before-before.ensures;
       all = ap (λ ls. surveyed_all (operation o) c.args.moment (acts o.req c.args.past.now) none (ranks_for o.asked.kind o.asked.before ls)) (sym (from-none (levels c.args.target.now o.asked.before)))
-        ∙ ap (λ s. surveyed_all (operation o) c.args.moment (acts o.req c.args.past.now) s (ranks_for o.asked.kind o.asked.before (from 0 (levels c.args.target.now o.asked.before)))) (sym c.none-survey.ensures);
+          ∙ ap (λ s. surveyed_all (operation o) c.args.moment (acts o.req c.args.past.now) s (ranks_for o.asked.kind o.asked.before (from 0 (levels c.args.target.now o.asked.before)))) (sym c.none-survey.ensures);
     }
 
 pub loop-index-preserved : goal.loop-index-preserved
@@ -29,11 +29,11 @@ loop-index-preserved c =
     record {
       before = c.loop-index.invariant.before;
       all =
-        c.loop-index.invariant.all
-        ∙ ap (λ (ks : List Level). surveyed_all (operation o) c.args.moment xs c.loop-index.survey (ranks_for o.asked.kind o.asked.before ks)) (from-more c.loop-index.index ls (rising c.args.target.now o.asked.before))
-        ∙ survey-next (operation o) c.args.moment xs c.loop-index.survey o.asked.kind o.asked.before (of_index c.loop-index.index ls) rest
-        ∙ ap (λ (x : Option Level). surveyed_all (operation o) c.args.moment xs (surveyed_any (operation o) c.args.moment xs c.loop-index.survey (option_map (rank_over o.asked.kind o.asked.before) x)) (ranks_for o.asked.kind o.asked.before rest)) (sym found)
-        ∙ ap (λ s. surveyed_all (operation o) c.args.moment xs s (ranks_for o.asked.kind o.asked.before rest)) (sym c.with_any-survey.ensures);
+          c.loop-index.invariant.all
+          ∙ ap (λ (ks : List Level). surveyed_all (operation o) c.args.moment xs c.loop-index.survey (ranks_for o.asked.kind o.asked.before ks)) (from-more c.loop-index.index ls (rising c.args.target.now o.asked.before))
+          ∙ survey-next (operation o) c.args.moment xs c.loop-index.survey o.asked.kind o.asked.before (of_index c.loop-index.index ls) rest
+          ∙ ap (λ (x : Option Level). surveyed_all (operation o) c.args.moment xs (surveyed_any (operation o) c.args.moment xs c.loop-index.survey (option_map (rank_over o.asked.kind o.asked.before) x)) (ranks_for o.asked.kind o.asked.before rest)) (sym found)
+          ∙ ap (λ s. surveyed_all (operation o) c.args.moment xs s (ranks_for o.asked.kind o.asked.before rest)) (sym c.with_any-survey.ensures);
     }
 
 pub returns : goal.returns
@@ -42,4 +42,4 @@ returns c =
     let high = c.top_of-index-end.ensures ∙ ap (λ (h : History). top c.args.target.now h) c.loop-index.invariant.before in
     sym (c.loop-index.invariant.all
     ∙ ap (λ ks. surveyed_all (operation o) c.args.moment (acts o.req c.args.past.now) c.loop-index.survey (ranks_for o.asked.kind o.asked.before ks))
-      (from-past c.loop-index.index c.args.target.now o.asked.before (omega (arith, high, c.loop-index-test.false))))
+    (from-past c.loop-index.index c.args.target.now o.asked.before (omega (arith, high, c.loop-index-test.false))))

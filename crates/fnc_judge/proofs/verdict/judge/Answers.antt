@@ -15,7 +15,7 @@ returns-in-Some-clause-fault c =
     let h : History = c.args.journal.now.history in
     let i = c.loop-index.index in
     let rule : broken c.entry.result.now (prefix i h) ≡ Some c.in-Some.rule =
-        ap (broken c.entry.result.now) (sym c.of.ensures) ∙ sym c.broken.ensures ∙ c.in-Some.is in
+    ap (broken c.entry.result.now) (sym c.of.ensures) ∙ sym c.broken.ensures ∙ c.in-Some.is in
     sym (fault-prefix h (i + 1) _ (fault-next h i c.entry.result.now (Some c.in-Some.rule) (omega (arith, c.loop-index-test.true, c.len-index-end.ensures)) c.entry.ensures c.loop-index.invariant rule))
 
 pub returns-in-Some-clause-lawful : goal.returns-in-Some-clause-lawful
@@ -23,7 +23,7 @@ returns-in-Some-clause-lawful c =
     let h : History = c.args.journal.now.history in
     let i = c.loop-index.index in
     let rule : broken c.entry.result.now (prefix i h) ≡ Some c.in-Some.rule =
-        ap (broken c.entry.result.now) (sym c.of.ensures) ∙ sym c.broken.ensures ∙ c.in-Some.is in
+    ap (broken c.entry.result.now) (sym c.of.ensures) ∙ sym c.broken.ensures ∙ c.in-Some.is in
     lawful-none (Verdict.Unlawful i c.in-Some.rule) h
     (sym (fault-prefix h (i + 1) _ (fault-next h i c.entry.result.now (Some c.in-Some.rule) (omega (arith, c.loop-index-test.true, c.len-index-end.ensures)) c.entry.ensures c.loop-index.invariant rule)))
 
@@ -32,7 +32,7 @@ loop-index-preserved c =
     let h : History = c.args.journal.now.history in
     let i = c.loop-index.index in
     let none : broken c.entry.result.now (prefix i h) ≡ None =
-        ap (broken c.entry.result.now) (sym c.of.ensures) ∙ sym c.broken.ensures ∙ c.in_default.is in
+    ap (broken c.entry.result.now) (sym c.of.ensures) ∙ sym c.broken.ensures ∙ c.in_default.is in
     fault-next h i c.entry.result.now None (omega (arith, c.loop-index-test.true, c.len-index-end.ensures)) c.entry.ensures c.loop-index.invariant none
 
 pub returns-clause-fault : goal.returns-clause-fault
