@@ -1,0 +1,15 @@
+pub mod Prefixed
+pub mod Counts
+pub mod Leads
+pub mod Rising
+pub mod Oldest
+pub mod Looks
+pub mod Gatherings
+pub mod Ranks
+pub mod Ordered
+pub mod Queue
+pub mod SurveyLemmas
+pub mod CourseLemmas
+pub mod Opening
+pub mod Testings
+pub mod Firsts

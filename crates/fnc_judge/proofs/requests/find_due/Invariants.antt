@@ -1,0 +1,11 @@
+use Rattle.std.proofs.Common.{◌≡◌}
+use Rattle.fnc_journal.specs.Prefix.{prefix}
+use Rattle.std.specs.Prelude.{find}
+use Rattle.fnc_journal.specs.Operations.{is_due}
+use Rattle.fnc_judge.specs.Pursued.{operation}
+use Rattle.fnc_judge.specs.Opened.{opens}
+use Rattle.fnc_judge.proofs.requests.find_due.Given as goal
+
+-- what the entries so far say
+abbrev pub invariant-loop-i : goal.invariant-loop-i
+invariant-loop-i l = l.found ≡ find (λ p. is_due l.past l.moment (operation p)) (opens l.past (prefix l.i l.past))

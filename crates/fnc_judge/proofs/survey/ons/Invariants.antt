@@ -1,0 +1,14 @@
+use Rattle.std.proofs.Common.{◌≡◌, drop}
+use Rattle.fnc_journal.specs.Acts.{acts}
+use Rattle.fnc_judge.specs.Places.{ons_over}
+use Rattle.fnc_judge.specs.Pursued.{operation}
+use Rattle.fnc_judge.specs.Tours.{gathered_all, nothing}
+use Rattle.fnc_judge.proofs.survey.ons.Given as goal
+
+-- what was gathered so far, with what is left
+abbrev pub invariant-loop-place : goal.invariant-loop-place
+invariant-loop-place l = record {
+  before : l.before ≡ l.operation.asked.before;
+  all : gathered_all (operation l.operation) l.moment (acts l.operation.req l.past) nothing (ons_over l.operation.asked.kind l.operation.asked.before l.level 0 l.names)
+      ≡ gathered_all (operation l.operation) l.moment (acts l.operation.req l.past) l.found (ons_over l.operation.asked.kind l.operation.asked.before l.level l.place (drop l.place l.names));
+}

@@ -1,0 +1,58 @@
+-- The open operations, one after another, as the judge keeps them.
+use Rattle.std.specs.Prelude.{ℕ, List, [], ◌∷◌, Bool, false, ◌==◌, ◌&&◌, not, if◌then◌else◌, filter, Option, Some, None, option_and_then, length}
+use Rattle.fnc_journal.specs.declared.entry.Event.{Event}
+use Rattle.fnc_journal.specs.History.{History}
+use Rattle.fnc_journal.specs.Missing.{append_some, first_of}
+use Rattle.fnc_journal.specs.Found.{Asked, asked, is_answered, has_exit}
+use Rattle.fnc_journal.specs.Registered.{lane}
+use Rattle.fnc_journal.specs.Operations.{requests, request_here, is_open, operation_here}
+use Rattle.fnc_journal.specs.Startable.{Begun, begun_here, Startable, startable}
+use Rattle.fnc_judge.specs.Pursued.{Pursued, operation}
+
+-- the first request of an operation in a journal that has no reply in all of it
+abbrev pub waiting : History → ℕ → History → Option ℕ
+waiting all o h = first_of (filter (λ r. not (is_answered r all)) (requests o h))
+
+-- the request that an entry adds, where it has no reply
+abbrev pub waiting_here : History → ℕ → Event → Option ℕ
+waiting_here all o event = option_and_then (λ r. if is_answered r all then None else Some r) (request_here o event)
+
+-- a request that leads itself is an operation
+abbrev pub pursued_by : ℕ → Asked → Option Pursued
+pursued_by n a = if n == a.lead then Some (record { req = n; asked = a }) else None
+
+-- the operation of a number
+abbrev pub pursued_of : ℕ → History → Option Pursued
+pursued_of n h = option_and_then (pursued_by n) (asked n h)
+
+-- the operation that an entry begins, where it is open
+abbrev pub opened : History → Event → Option Pursued
+opened all event = option_and_then (λ n. if is_open n all then pursued_of n all else None) (operation_here event)
+
+-- those that are open in all of it
+abbrev pub opens : History → History → List Pursued
+opens all [] = []
+opens all (e ∷ h) = append_some (opens all h) (opened all e.event)
+
+-- what is found among them, with one more
+abbrev pub found_after : (Pursued → Bool) → Option Pursued → Option Pursued → Option Pursued
+found_after p (Some f) x = Some f
+found_after p None None = None
+found_after p None (Some x) = if p x then Some x else None
+
+-- whether a run of a lane is alive in all of it
+abbrev pub counts : History → ℕ → Begun → Bool
+counts all l b = not (has_exit b.run all) && (lane b.reg all == l)
+
+-- how many runs of a lane that began are alive in all of it
+abbrev pub alive_in : History → ℕ → List Begun → ℕ
+alive_in all l bs = length (filter (λ b. lane b.reg all == l) (filter (λ b. not (has_exit b.run all)) bs))
+
+-- whether an entry starts such a run
+abbrev pub counts_here : History → ℕ → Event → Bool
+counts_here all l event = elim (begun_here event) [ None ↦ false | Some b ↦ counts all l b ]
+
+-- the start that an operation may make, if there is one
+abbrev pub startable_any : History → ℕ → Option Pursued → Option Startable
+startable_any h m None = None
+startable_any h m (Some p) = startable h m (operation p)

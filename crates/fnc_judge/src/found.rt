@@ -1,0 +1,260 @@
+// What is found in the first entries of a journal by its number.
+
+ghost use Rattle.std.specs.Prelude.{◌≡◌, ◌<◌, ◌||◌, ◌∷◌, Some, length, if◌then◌else◌, None};
+ghost use Rattle.std.specs.Option.{option_copied};
+ghost use Rattle.fnc_journal.specs.Found as Found;
+ghost use Rattle.fnc_journal.specs.Operations.{lead_of};
+ghost use Rattle.fnc_journal.specs.Missing.{or_here};
+ghost use Rattle.fnc_judge.specs.Led.{lead_here};
+
+use crate::past::Past;
+use fnc_journal::{Entry, Event, Kind, Registration, Scope, Slot};
+use std::marker::Model;
+
+/// A request: what its entry says, and what lies before it.
+#[derive(Drop)]
+pub(crate) struct Asked<'a> {
+    pub moment: u64,
+    pub lead: u32,
+    pub kind: Kind,
+    pub target: &'a str,
+    pub total: u64,
+    pub coin: u64,
+    pub scope: Scope,
+    pub before: Past<'a>,
+}
+
+impl<'a> Model for Asked<'a> {
+    ghost Value = { Found.Asked };
+
+    ghost view = { λ a. record { moment = a.moment; lead = a.lead; kind = a.kind; target = a.target.now; total = a.total; coin = a.coin; scope = a.scope; before = a.before } };
+}
+
+/// The start of a run.
+#[derive(Drop)]
+pub(crate) struct Started {
+    pub req: u32,
+    pub slot: Slot,
+    pub reg: u32,
+    pub kind: Kind,
+}
+
+impl Model for Started {
+    ghost Value = { Found.Started };
+
+    ghost view = { λ s. record { req = s.req; slot = s.slot; reg = s.reg; kind = s.kind } };
+}
+
+fn registration_after<'a>(
+    earlier: Option<&'a Registration>,
+    event: &'a Event,
+    reg: u32,
+) -> Option<&'a Registration>
+    ensures { option_copied result ≡ or_here (option_copied earlier.entry) (Found.registration_here reg event.now) }
+{
+    match (earlier, event) {
+        (
+            None,
+            Event::Device {
+                reg: number,
+                registration,
+            },
+        ) if reg == number.0 => Some(registration),
+        _ => earlier,
+    }
+}
+
+/// What the registration of a number was made with.
+pub(crate) fn registration<'a>(past: &Past<'a>, reg: u32) -> Option<&'a Registration>
+    ensures { option_copied result ≡ Found.registration reg past.now }
+{
+    let mut found = None;
+    for i in 0..past.len() {
+        found = registration_after(found, &past.entry(i).event, reg);
+    }
+    found
+}
+
+fn asked_here<'a>(entry: &'a Entry, before: Past<'a>, req: u32) -> Option<Asked<'a>>
+    ensures { result ≡ Found.asked_here req entry.now.moment before.entry entry.now.event }
+{
+    match &entry.event {
+        Event::Ask {
+            req: number,
+            lead,
+            kind,
+            target,
+            total,
+            coin,
+            scope,
+            ..
+        } => {
+            if req == number.0 {
+                Some(Asked {
+                    moment: entry.moment,
+                    lead: lead.0,
+                    kind: *kind,
+                    target: target.as_str(),
+                    total: *total,
+                    coin: *coin,
+                    scope: *scope,
+                    before,
+                })
+            } else {
+                None
+            }
+        }
+        _ => None,
+    }
+}
+
+fn asked_after<'a>(
+    earlier: Option<Asked<'a>>,
+    entry: &'a Entry,
+    before: Past<'a>,
+    req: u32,
+) -> Option<Asked<'a>>
+    ensures { result ≡ or_here earlier.entry (Found.asked_here req entry.now.moment before.entry entry.now.event) }
+{
+    match earlier {
+        Some(asked) => Some(asked),
+        None => asked_here(entry, before, req),
+    }
+}
+
+/// The request of a number.
+pub(crate) fn request<'a>(past: &Past<'a>, req: u32) -> Option<Asked<'a>>
+    ensures { result ≡ Found.asked req past.now }
+{
+    let mut found = None;
+    for i in 0..past.len() {
+        found = asked_after(found, past.entry(i), past.before(i), req);
+    }
+    found
+}
+
+fn lead_after(earlier: Option<u32>, event: &Event, req: u32) -> Option<u32>
+    ensures { result ≡ or_here earlier (lead_here req event.now) }
+{
+    match (earlier, event) {
+        (
+            None,
+            Event::Ask {
+                req: number,
+                lead,
+                ..
+            },
+        ) if req == number.0 => Some(lead.0),
+        _ => earlier,
+    }
+}
+
+/// The operation that a request joined or began.
+pub(crate) fn lead(past: &Past<'_>, req: u32) -> Option<u32>
+    ensures { result ≡ lead_of req past.now }
+{
+    let mut found = None;
+    for i in 0..past.len() {
+        found = lead_after(found, &past.entry(i).event, req);
+    }
+    found
+}
+
+fn started_here(event: &Event, run: u32) -> Option<Started>
+    ensures { result ≡ Found.started_here run event.now }
+{
+    match event {
+        Event::Start {
+            run: number,
+            req,
+            slot,
+            reg,
+            kind,
+            ..
+        } => {
+            if run == number.0 {
+                Some(Started {
+                    req: req.0,
+                    slot: *slot,
+                    reg: reg.0,
+                    kind: *kind,
+                })
+            } else {
+                None
+            }
+        }
+        _ => None,
+    }
+}
+
+fn started_after(earlier: Option<Started>, event: &Event, run: u32) -> Option<Started>
+    ensures { result ≡ or_here earlier (Found.started_here run event.now) }
+{
+    match earlier {
+        Some(start) => Some(start),
+        None => started_here(event, run),
+    }
+}
+
+/// The start of a run.
+pub(crate) fn start_of(past: &Past<'_>, run: u32) -> Option<Started>
+    ensures { result ≡ Found.started run past.now }
+{
+    let mut found = None;
+    for i in 0..past.len() {
+        found = started_after(found, &past.entry(i).event, run);
+    }
+    found
+}
+
+fn is_exit_of(event: &Event, run: u32) -> bool
+    ensures { result ≡ Found.is_exit_of run event.now }
+{
+    match event {
+        Event::Exit { run: number, .. } => run == number.0,
+        _ => false,
+    }
+}
+
+fn is_exit_after(earlier: bool, event: &Event, run: u32) -> bool
+    ensures { result ≡ (Found.is_exit_of run event.now || earlier) }
+{
+    is_exit_of(event, run) || earlier
+}
+
+/// Whether a run has had its exit.
+pub(crate) fn has_exit(past: &Past<'_>, run: u32) -> bool
+    ensures { result ≡ Found.has_exit run past.now }
+{
+    let mut found = false;
+    for i in 0..past.len() {
+        found = is_exit_after(found, &past.entry(i).event, run);
+    }
+    found
+}
+
+fn is_reply_to(event: &Event, req: u32) -> bool
+    ensures { result ≡ Found.is_reply_to req event.now }
+{
+    match event {
+        Event::Reply { req: number, .. } => req == number.0,
+        _ => false,
+    }
+}
+
+fn is_reply_after(earlier: bool, event: &Event, req: u32) -> bool
+    ensures { result ≡ (Found.is_reply_to req event.now || earlier) }
+{
+    is_reply_to(event, req) || earlier
+}
+
+/// Whether a request has had its reply.
+pub(crate) fn is_answered(past: &Past<'_>, req: u32) -> bool
+    ensures { result ≡ Found.is_answered req past.now }
+{
+    let mut found = false;
+    for i in 0..past.len() {
+        found = is_reply_after(found, &past.entry(i).event, req);
+    }
+    found
+}

@@ -1,0 +1,306 @@
+// The requests that wait, the operations that are open, and the answers that are due to them.
+
+ghost use Rattle.std.specs.Prelude.{◌≡◌, ◌||◌, ◌+◌, ◌<◌, ◌^◌, ◌-◌, if◌then◌else◌, false, find, is_none, is_some, option_map, unwrap_or};
+ghost use Rattle.fnc_journal.specs.Acts.{acts};
+ghost use Rattle.fnc_journal.specs.Device as Devices;
+ghost use Rattle.fnc_journal.specs.Due as Dues;
+ghost use Rattle.fnc_journal.specs.Missing.{first_of, or_here};
+ghost use Rattle.fnc_journal.specs.Operations as Operations;
+ghost use Rattle.fnc_journal.specs.Same.{same_kind};
+ghost use Rattle.fnc_journal.specs.Slots as Slots;
+ghost use Rattle.fnc_judge.specs.Courses.{answer_of};
+ghost use Rattle.fnc_judge.specs.Opened.{found_after, opened, opens, pursued_of, waiting, waiting_here};
+ghost use Rattle.fnc_judge.specs.Pursued as Pursued;
+
+use crate::course::{Due, due_by_acts, standing};
+use crate::found::{is_answered, request};
+use crate::past::Past;
+use crate::pursued::Operation;
+use crate::task::Task;
+use fnc_journal::{Event, Kind, Phase};
+
+fn confirms(operation: &Operation<'_>, before: &Past<'_>, event: &Event) -> bool
+    ensures { result ≡ Dues.confirms (Pursued.operation operation.now) before.now event.now }
+{
+    match event {
+        Event::Confirm { target, .. } => {
+            target.is(operation.target()) && request(before, operation.req()).is_some()
+        }
+        _ => false,
+    }
+}
+
+fn confirmed_after(
+    earlier: bool,
+    operation: &Operation<'_>,
+    before: &Past<'_>,
+    event: &Event,
+) -> bool
+    ensures { result ≡ (Dues.confirms (Pursued.operation operation.now) before.now event.now || earlier) }
+{
+    confirms(operation, before, event) || earlier
+}
+
+/// Whether an operator confirmed since an operation was asked that its target is down.
+fn is_confirmed(operation: &Operation<'_>, past: &Past<'_>) -> bool
+    ensures { result ≡ Dues.is_confirmed (Pursued.operation operation.now) past.now }
+{
+    let mut found = false;
+    for i in 0..past.len() {
+        found = confirmed_after(found, operation, &past.before(i), &past.entry(i).event);
+    }
+    found
+}
+
+fn cuts_power(kind: Kind) -> bool
+    ensures { result ≡ Devices.cuts_power kind }
+{
+    match kind {
+        Kind::Off | Kind::Reboot => true,
+        _ => false,
+    }
+}
+
+/// The answer that is due to an operation.
+pub(crate) fn due_to(past: &Past<'_>, moment: u64, operation: &Operation<'_>) -> Option<Due>
+    ensures { option_map answer_of result ≡ Operations.due_to past.now moment (Pursued.operation operation.now) }
+{
+    if is_confirmed(operation, past) && cuts_power(operation.kind()) {
+        Some(Due::Confirmed)
+    } else {
+        due_by_acts(operation, moment, past)
+    }
+}
+
+fn request_here(event: &Event, req: u32) -> Option<u32>
+    ensures { result ≡ Operations.request_here req event.now }
+{
+    match event {
+        Event::Ask {
+            req: number,
+            lead,
+            ..
+        } => { if req == lead.0 { Some(number.0) } else { None } }
+        _ => None,
+    }
+}
+
+fn waiting_by(past: &Past<'_>, req: u32, event: &Event) -> Option<u32>
+    ensures { result ≡ waiting_here past.now req event.now }
+{
+    let number = request_here(event, req)?;
+    if is_answered(past, number) {
+        None
+    } else {
+        Some(number)
+    }
+}
+
+fn waiting_after(earlier: Option<u32>, past: &Past<'_>, req: u32, event: &Event) -> Option<u32>
+    ensures { result ≡ or_here earlier (waiting_here past.now req event.now) }
+{
+    match earlier {
+        Some(earliest) => Some(earliest),
+        None => waiting_by(past, req, event),
+    }
+}
+
+/// The first request of an operation that has no reply.
+pub(crate) fn first_waiting(past: &Past<'_>, req: u32) -> Option<u32>
+    ensures { result ≡ first_of (Operations.unanswered req past.now) }
+{
+    let mut found = None;
+    for i in 0..past.len() {
+        found = waiting_after(found, past, req, &past.entry(i).event);
+    }
+    found
+}
+
+/// Whether an operation is open: whether a request of it waits.
+pub(crate) fn is_open(past: &Past<'_>, req: u32) -> bool
+    ensures { result ≡ Operations.is_open req past.now }
+{
+    first_waiting(past, req).is_some()
+}
+
+/// The operation of a number.
+pub(crate) fn operation_of<'a>(past: &Past<'a>, req: u32) -> Option<Operation<'a>>
+    ensures { result ≡ pursued_of req past.now }
+{
+    let asked = request(past, req)?;
+    if req == asked.lead {
+        Some(Operation::new(req, asked))
+    } else {
+        None
+    }
+}
+
+fn operation_here(event: &Event) -> Option<u32>
+    ensures { result ≡ Operations.operation_here event.now }
+{
+    match event {
+        Event::Ask { req, lead, .. } => { if req.0 == lead.0 { Some(req.0) } else { None } }
+        _ => None,
+    }
+}
+
+/// The operation that an entry begins, where it is open.
+pub(crate) fn opened_by<'a>(past: &Past<'a>, event: &Event) -> Option<Operation<'a>>
+    ensures { result ≡ opened past.now event.now }
+{
+    let req = operation_here(event)?;
+    if is_open(past, req) {
+        operation_of(past, req)
+    } else {
+        None
+    }
+}
+
+fn is_due(past: &Past<'_>, moment: u64, operation: &Operation<'_>) -> bool
+    ensures { result ≡ Operations.is_due past.now moment (Pursued.operation operation.now) }
+{
+    due_to(past, moment, operation).is_some()
+}
+
+fn due_after<'a>(
+    earlier: Option<Operation<'a>>,
+    past: &Past<'_>,
+    moment: u64,
+    here: Option<Operation<'a>>,
+) -> Option<Operation<'a>>
+    ensures { result ≡ found_after (λ p. Operations.is_due past.now moment (Pursued.operation p)) earlier.entry here.entry }
+{
+    match earlier {
+        Some(first) => Some(first),
+        None => {
+            let operation = here?;
+            if is_due(past, moment, &operation) {
+                Some(operation)
+            } else {
+                None
+            }
+        }
+    }
+}
+
+fn find_due<'a>(past: &Past<'a>, moment: u64) -> Option<Operation<'a>>
+    ensures { result ≡ find (λ p. Operations.is_due past.now moment (Pursued.operation p)) (opens past.now past.now) }
+{
+    let mut found = None;
+    for i in 0..past.len() {
+        let here = opened_by(past, &past.entry(i).event);
+        found = due_after(found, past, moment, here);
+    }
+    found
+}
+
+/// The least operation to which an answer is due.
+pub(crate) fn first_due<'a>(past: &Past<'a>, moment: u64) -> Option<Operation<'a>>
+    ensures { option_map Pursued.operation result ≡ Operations.first_due past.now moment }
+{
+    find_due(past, moment)
+}
+
+fn is_nobody(operation: Option<Operation<'_>>) -> bool
+    ensures { result ≡ is_none (option_map Pursued.operation operation.entry) }
+{
+    match operation {
+        Some(_) => false,
+        None => true,
+    }
+}
+
+/// Whether no answer is due.
+pub(crate) fn settled(past: &Past<'_>, moment: u64) -> bool
+    ensures { result ≡ Operations.settled past.now moment }
+{
+    is_nobody(first_due(past, moment))
+}
+
+fn is_on(task: &Option<Task<'_>>) -> bool
+    ensures { result ≡ unwrap_or (option_map Operations.is_on task.now) false }
+{
+    match task {
+        Some(task) => task.phase.is(Phase::On),
+        None => false,
+    }
+}
+
+fn is_joinable(
+    past: &Past<'_>,
+    moment: u64,
+    kind: Kind,
+    target: &str,
+    operation: &Operation<'_>,
+) -> bool
+    ensures { result ≡ Operations.is_joinable past.now moment kind target.now (Pursued.operation operation.now) }
+{
+    same_kind_as(kind, operation.kind())
+        && target == operation.target()
+        && !is_on(&standing(operation, moment, past))
+}
+
+fn joinable_after<'a>(
+    earlier: Option<Operation<'a>>,
+    past: &Past<'_>,
+    moment: u64,
+    kind: Kind,
+    target: &str,
+    here: Option<Operation<'a>>,
+) -> Option<Operation<'a>>
+    ensures { result ≡ found_after (λ p. Operations.is_joinable past.now moment kind target.now (Pursued.operation p)) earlier.entry here.entry }
+{
+    match earlier {
+        Some(first) => Some(first),
+        None => {
+            let operation = here?;
+            if is_joinable(past, moment, kind, target, &operation) {
+                Some(operation)
+            } else {
+                None
+            }
+        }
+    }
+}
+
+fn find_joinable<'a>(
+    past: &Past<'a>,
+    moment: u64,
+    kind: Kind,
+    target: &str,
+) -> Option<Operation<'a>>
+    ensures { result ≡ find (λ p. Operations.is_joinable past.now moment kind target.now (Pursued.operation p)) (opens past.now past.now) }
+{
+    let mut found = None;
+    for i in 0..past.len() {
+        let here = opened_by(past, &past.entry(i).event);
+        found = joinable_after(found, past, moment, kind, target, here);
+    }
+    found
+}
+
+/// The operation that a request joins, if there is one.
+pub(crate) fn joined<'a>(
+    past: &Past<'a>,
+    moment: u64,
+    kind: Kind,
+    target: &str,
+) -> Option<Operation<'a>>
+    ensures { option_map Pursued.operation result ≡ Operations.joined past.now moment kind target.now }
+{
+    find_joinable(past, moment, kind, target)
+}
+
+/// Whether two kinds are the same.
+pub(crate) fn same_kind_as(a: Kind, b: Kind) -> bool
+    ensures { result ≡ same_kind a b }
+{
+    match (a, b) {
+        (Kind::On, Kind::On)
+        | (Kind::Off, Kind::Off)
+        | (Kind::Reboot, Kind::Reboot)
+        | (Kind::List, Kind::List)
+        | (Kind::Status, Kind::Status) => true,
+        _ => false,
+    }
+}

@@ -1,0 +1,484 @@
+// The rules that each entry of a lawful journal keeps, each tested for one entry and those before it.
+
+ghost use Rattle.std.specs.Prelude.{◌≡◌, ◌+◌, ◌<◌, ◌^◌, ◌-◌, if◌then◌else◌, false, Some, is_some, option_map, unwrap_or};
+ghost use Rattle.std.specs.Option.{option_copied};
+ghost use Rattle.fnc_journal.specs.Acts as Acts;
+ghost use Rattle.fnc_journal.specs.Found as Found;
+ghost use Rattle.fnc_journal.specs.Lawful as Lawful;
+ghost use Rattle.fnc_journal.specs.Levels as Levels;
+ghost use Rattle.fnc_journal.specs.Missing as Missing;
+ghost use Rattle.fnc_journal.specs.Operations as Operations;
+ghost use Rattle.fnc_journal.specs.Same as Same;
+ghost use Rattle.fnc_journal.specs.Startable as Starts;
+ghost use Rattle.fnc_judge.specs.Courses.{answer_of};
+ghost use Rattle.fnc_judge.specs.Pursued as Pursued;
+ghost use Rattle.fnc_judge.specs.Testing.{is_start_with, moment_by, pending_after, runs_here};
+
+use crate::course::Due;
+use crate::found::{has_exit, is_answered, lead, registration, request, start_of};
+use crate::level::{Target, level_of, oldest, stands};
+use crate::numbers::counted;
+use crate::past::Past;
+use crate::pursued::Operation;
+use crate::registered::is_current;
+use crate::requests::{
+    due_to, first_due, first_waiting, is_open, joined, operation_of, same_kind_as, settled,
+};
+use crate::startable::{Startable, first};
+use crate::survey::pattern_at;
+use fnc_journal::{Answer, Entry, Event, Kind, Rule, Scope, Slot};
+use std::marker::Model;
+
+/// The last entry.
+fn last<'a>(past: &Past<'a>) -> Option<&'a Entry>
+    ensures { option_copied result ≡ Missing.first_of past.now }
+{
+    let len = past.len();
+    if len == 0 {
+        None
+    } else {
+        Some(past.entry(len - 1))
+    }
+}
+
+fn moment_of(entry: Option<&Entry>) -> u64
+    ensures { result ≡ moment_by (option_copied entry.entry) }
+{
+    match entry {
+        Some(entry) => entry.moment,
+        None => 0,
+    }
+}
+
+/// The last moment, 0 before the first entry.
+fn last_moment(past: &Past<'_>) -> u64
+    ensures { result ≡ Lawful.last_moment past.now }
+{
+    moment_of(last(past))
+}
+
+fn may_ask(kind: Kind) -> bool
+    ensures { result ≡ Lawful.may_ask kind }
+{
+    match kind {
+        Kind::On | Kind::Off | Kind::Reboot => true,
+        _ => false,
+    }
+}
+
+fn has_level(past: &Past<'_>, target: &Target<'_>, index: u32) -> bool
+    ensures { result ≡ Levels.has_level target.now index past.now }
+{
+    level_of(past, target, index).is_some()
+}
+
+fn pattern_oldest(past: &Past<'_>, at: u32) -> Option<u32>
+    ensures { result ≡ Levels.oldest (Levels.pattern_levels at past.now) }
+{
+    match pattern_at(past, at) {
+        Some(text) => oldest(past, &Target::pattern(text)),
+        None => None,
+    }
+}
+
+fn is_in_place(past: &Past<'_>, scope: Scope, target: &str) -> bool
+    ensures { result ≡ Levels.is_in_place scope target.now past.now }
+{
+    let named = stands(past, &Target::name(target));
+    match scope {
+        Scope::Name => named,
+        Scope::Pattern(at) => !named && pattern_oldest(past, at) == Some(at),
+        Scope::Nothing => !named,
+    }
+}
+
+fn is_operation(past: &Past<'_>, req: u32) -> bool
+    ensures { result ≡ is_some (Operations.operation req past.now) }
+{
+    operation_of(past, req).is_some()
+}
+
+/// Whether the numbers, references and scope of an entry are in place.
+fn in_order(event: &Event, past: &Past<'_>) -> bool
+    ensures { result ≡ Lawful.in_order event.now past.now }
+{
+    match event {
+        Event::Device { reg, .. } => reg.0 == counted(past).devices,
+        Event::Gone { reg } => is_current(past, reg.0),
+        Event::LevelGone { target, index } => {
+            has_level(past, &Target::of(target), u32::from(*index))
+        }
+        Event::Ask {
+            req,
+            kind,
+            target,
+            total,
+            scope,
+            ..
+        } => {
+            req.0 == counted(past).asks
+                && may_ask(*kind)
+                && 1 <= *total
+                && *total <= 86_400_000
+                && is_in_place(past, *scope, target.as_str())
+        }
+        Event::Exit { run, .. } => start_of(past, run.0).is_some(),
+        Event::Start { run, req, reg, .. } => {
+            run.0 == counted(past).starts
+                && is_operation(past, req.0)
+                && registration(past, reg.0).is_some()
+        }
+        Event::Reply { req, .. } => request(past, req.0).is_some(),
+        _ => true,
+    }
+}
+
+/// Moments do not fall and end at 10^15, and the entry is in order.
+pub(crate) fn order(entry: &Entry, past: &Past<'_>) -> bool
+    ensures { result ≡ Lawful.order entry.now past.now }
+{
+    entry.moment <= 1_000_000_000_000_000
+        && last_moment(past) <= entry.moment
+        && in_order(&entry.event, past)
+}
+
+fn is_alive(past: &Past<'_>, run: u32) -> bool
+    ensures { result ≡ Starts.is_alive run past.now }
+{
+    start_of(past, run).is_some() && !has_exit(past, run)
+}
+
+/// An exit is of a run that is alive.
+pub(crate) fn exit(entry: &Entry, past: &Past<'_>) -> bool
+    ensures { result ≡ Lawful.exit entry.now past.now }
+{
+    match &entry.event {
+        Event::Exit { run, .. } => is_alive(past, run.0),
+        _ => true,
+    }
+}
+
+fn is_run_of(event: &Event, req: u32, slot: Slot) -> bool
+    ensures { result ≡ runs_here req slot event.now }
+{
+    match event {
+        Event::Start {
+            req: other,
+            slot: here,
+            ..
+        } => req == other.0 && slot.is(*here),
+        _ => false,
+    }
+}
+
+fn runs_after(earlier: u32, event: &Event, req: u32, slot: Slot) -> u32
+    requires { earlier < 2 ^ 32 - 1 }
+    ensures { result ≡ (if runs_here req slot event.now then earlier + 1 else earlier) }
+{
+    if is_run_of(event, req, slot) {
+        earlier + 1
+    } else {
+        earlier
+    }
+}
+
+/// How many runs a slot of an operation has had.
+fn runs(past: &Past<'_>, req: u32, slot: Slot) -> u32
+    ensures { result ≡ Acts.runs slot (Acts.acts req past.now) }
+{
+    let mut count = 0;
+    for i in 0..past.len() {
+        count = runs_after(count, &past.entry(i).event, req, slot);
+    }
+    count
+}
+
+impl<'a> Startable<'a> {
+    fn is_with(&self, req: u32, slot: Slot, reg: u32, kind: Kind) -> bool
+        ensures { result ≡ is_start_with req slot reg kind self.now }
+    {
+        req == self.operation.req()
+            && self.task.is_of(slot)
+            && reg == self.task.reg
+            && same_kind_as(kind, self.task.kind)
+    }
+}
+
+fn is_start_of(
+    past: &Past<'_>,
+    req: u32,
+    slot: Slot,
+    reg: u32,
+    kind: Kind,
+    attempt: u8,
+    first: Option<Startable<'_>>,
+) -> bool
+    ensures { result ≡ Lawful.is_start_of req slot reg kind attempt past.now first.entry }
+{
+    match first {
+        Some(first) => {
+            first.is_with(req, slot, reg, kind)
+                && u64::from(attempt) == u64::from(runs(past, req, slot)) + 1
+        }
+        None => false,
+    }
+}
+
+/// A start is of the first that may start.
+pub(crate) fn start(entry: &Entry, past: &Past<'_>) -> bool
+    ensures { result ≡ Lawful.start entry.now past.now }
+{
+    match &entry.event {
+        Event::Start {
+            req,
+            slot,
+            reg,
+            kind,
+            attempt,
+            ..
+        } => is_start_of(
+            past,
+            req.0,
+            *slot,
+            reg.0,
+            *kind,
+            *attempt,
+            first(past, entry.moment),
+        ),
+        _ => true,
+    }
+}
+
+/// The last entry, where it is a reply of an operation that is still open.
+#[derive(Drop)]
+struct Pending {
+    operation: u32,
+    answer: Answer,
+    moment: u64,
+}
+
+impl Model for Pending {
+    ghost use Rattle.fnc_journal.specs.Lawful as Lawful;
+
+    ghost Value = { Lawful.Pending };
+
+    ghost view = { λ p. record { operation = p.operation; answer = p.answer; moment = p.moment } };
+}
+
+fn pending_of(past: &Past<'_>, entry: &Entry) -> Option<Pending>
+    ensures { result ≡ Lawful.pending_of entry.now.moment entry.now.event past.now }
+{
+    match &entry.event {
+        Event::Reply { req, answer } => {
+            let operation = lead(past, req.0)?;
+            if is_open(past, operation) {
+                Some(Pending {
+                    operation,
+                    answer: *answer,
+                    moment: entry.moment,
+                })
+            } else {
+                None
+            }
+        }
+        _ => None,
+    }
+}
+
+fn pending_of_last(past: &Past<'_>, last: Option<&Entry>) -> Option<Pending>
+    ensures { result ≡ pending_after past.now (option_copied last.entry) }
+{
+    match last {
+        Some(entry) => pending_of(past, entry),
+        None => None,
+    }
+}
+
+/// The reply that must be continued, if there is one.
+fn last_pending(past: &Past<'_>) -> Option<Pending>
+    ensures { result ≡ Lawful.pending past.now }
+{
+    pending_of_last(past, last(past))
+}
+
+fn same_answer(a: Answer, b: Answer) -> bool
+    ensures { result ≡ Same.same_answer a b }
+{
+    match (a, b) {
+        (Answer::Passed(a), Answer::Passed(b)) => a == b,
+        (Answer::Levels, Answer::Levels)
+        | (Answer::Time, Answer::Time)
+        | (Answer::NoDevice, Answer::NoDevice)
+        | (Answer::Confirmed, Answer::Confirmed) => true,
+        _ => false,
+    }
+}
+
+fn continues(pending: Option<Pending>, entry: &Entry, past: &Past<'_>) -> bool
+    ensures { result ≡ Lawful.continues pending entry.now.moment entry.now.event past.now }
+{
+    match (pending, &entry.event) {
+        (None, _) => true,
+        (Some(pending), Event::Reply { req, answer }) => {
+            lead(past, req.0) == Some(pending.operation)
+                && same_answer(*answer, pending.answer)
+                && entry.moment == pending.moment
+        }
+        (Some(_), _) => false,
+    }
+}
+
+fn is_first_reply(event: &Event, past: &Past<'_>) -> bool
+    ensures { result ≡ Lawful.is_first_reply event.now past.now }
+{
+    match event {
+        Event::Reply { req, .. } => !is_answered(past, req.0),
+        _ => true,
+    }
+}
+
+/// No request is answered twice, and the replies of an operation follow each other.
+pub(crate) fn once(entry: &Entry, past: &Past<'_>) -> bool
+    ensures { result ≡ Lawful.once entry.now past.now }
+{
+    is_first_reply(&entry.event, past) && continues(last_pending(past), entry, past)
+}
+
+fn is_answer(answer: Answer, due: Due) -> bool
+    ensures { result ≡ Same.same_answer answer (answer_of due) }
+{
+    match (answer, due) {
+        (Answer::Passed(level), Due::Passed(number)) => u64::from(level) == number,
+        (Answer::Levels, Due::Levels)
+        | (Answer::Time, Due::Time)
+        | (Answer::NoDevice, Due::NoDevice)
+        | (Answer::Confirmed, Due::Confirmed) => true,
+        _ => false,
+    }
+}
+
+fn is_answered_with(answer: Answer, due: Option<Due>) -> bool
+    ensures { result ≡ unwrap_or (option_map (Same.same_answer answer) (option_map answer_of due)) false }
+{
+    match due {
+        Some(due) => is_answer(answer, due),
+        None => false,
+    }
+}
+
+fn is_due_answer(past: &Past<'_>, moment: u64, answer: Answer, operation: &Operation<'_>) -> bool
+    ensures { result ≡ unwrap_or (option_map (Same.same_answer answer) (Operations.due_to past.now moment (Pursued.operation operation.now))) false }
+{
+    is_answered_with(answer, due_to(past, moment, operation))
+}
+
+fn is_reply_of(
+    past: &Past<'_>,
+    moment: u64,
+    req: u32,
+    answer: Answer,
+    operation: Option<Operation<'_>>,
+) -> bool
+    ensures { result ≡ Lawful.is_reply_of req answer moment past.now (option_map Pursued.operation operation.entry) }
+{
+    match operation {
+        Some(operation) => {
+            first_waiting(past, operation.req()) == Some(req)
+                && is_due_answer(past, moment, answer, &operation)
+        }
+        None => false,
+    }
+}
+
+fn is_reply_due(past: &Past<'_>, moment: u64, req: u32, answer: Answer) -> bool
+    ensures { result ≡ Lawful.is_reply_of req answer moment past.now (Operations.first_due past.now moment) }
+{
+    is_reply_of(past, moment, req, answer, first_due(past, moment))
+}
+
+/// A reply is the one that is due.
+pub(crate) fn reply(entry: &Entry, past: &Past<'_>) -> bool
+    ensures { result ≡ Lawful.reply entry.now past.now }
+{
+    match &entry.event {
+        Event::Reply { req, answer } => is_reply_due(past, entry.moment, req.0, *answer),
+        _ => true,
+    }
+}
+
+fn number_of(operation: Option<Operation<'_>>, req: u32) -> u32
+    ensures { result ≡ unwrap_or (option_map (λ o. o.req) (option_map Pursued.operation operation.entry)) req }
+{
+    match operation {
+        Some(operation) => operation.req(),
+        None => req,
+    }
+}
+
+fn lead_wanted(past: &Past<'_>, moment: u64, kind: Kind, target: &str, req: u32) -> u32
+    ensures { result ≡ unwrap_or (option_map (λ o. o.req) (Operations.joined past.now moment kind target.now)) req }
+{
+    number_of(joined(past, moment, kind, target), req)
+}
+
+fn leads(entry: &Entry, past: &Past<'_>) -> bool
+    ensures { result ≡ Lawful.leads entry.now.event entry.now.moment past.now }
+{
+    match &entry.event {
+        Event::Ask {
+            req,
+            lead,
+            kind,
+            target,
+            ..
+        } => lead.0 == lead_wanted(past, entry.moment, *kind, target.as_str(), req.0),
+        _ => true,
+    }
+}
+
+fn is_input(event: &Event) -> bool
+    ensures { result ≡ Found.is_input event.now }
+{
+    match event {
+        Event::Start { .. } | Event::Reply { .. } => false,
+        _ => true,
+    }
+}
+
+fn settled_since(past: &Past<'_>) -> bool
+    ensures { result ≡ Lawful.settled_since past.now }
+{
+    settled(past, last_moment(past))
+}
+
+/// Before an input nothing is due, at its moment and at the last, and an Ask has the right lead.
+pub(crate) fn prompt(entry: &Entry, past: &Past<'_>) -> bool
+    ensures { result ≡ Lawful.prompt entry.now past.now }
+{
+    if is_input(&entry.event) {
+        settled(past, entry.moment) && settled_since(past) && leads(entry, past)
+    } else {
+        true
+    }
+}
+
+/// The first rule that an entry breaks.
+pub(crate) fn broken(entry: &Entry, past: &Past<'_>) -> Option<Rule>
+    ensures { result ≡ Lawful.broken entry.now past.now }
+{
+    if !order(entry, past) {
+        Some(Rule::Order)
+    } else if !exit(entry, past) {
+        Some(Rule::Exit)
+    } else if !start(entry, past) {
+        Some(Rule::Start)
+    } else if !once(entry, past) {
+        Some(Rule::Once)
+    } else if !reply(entry, past) {
+        Some(Rule::Reply)
+    } else if !prompt(entry, past) {
+        Some(Rule::Prompt)
+    } else {
+        None
+    }
+}

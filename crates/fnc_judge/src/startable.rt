@@ -1,0 +1,163 @@
+// The runs that are alive, and the start that comes first.
+
+ghost use Rattle.std.specs.Prelude.{◌≡◌, ◌&&◌, ◌+◌, ◌<◌, ◌^◌, ◌-◌, if◌then◌else◌, nat_le};
+ghost use Rattle.fnc_journal.specs.Operations as Operations;
+ghost use Rattle.fnc_journal.specs.Registered.{lane};
+ghost use Rattle.fnc_journal.specs.Startable as Starts;
+ghost use Rattle.fnc_judge.specs.Opened.{counts, counts_here, startable_any};
+ghost use Rattle.fnc_judge.specs.Pursued as Pursued;
+
+use crate::course::{ready, standing};
+use crate::found::has_exit;
+use crate::past::Past;
+use crate::pursued::Operation;
+use crate::registered::lane_of;
+use crate::requests::opened_by;
+use crate::task::Task;
+use fnc_journal::Event;
+use std::marker::Model;
+
+/// A start that may be made: an operation, its standing slot, and since when that is ready.
+#[derive(Drop)]
+pub(crate) struct Startable<'a> {
+    pub operation: Operation<'a>,
+    pub task: Task<'a>,
+    pub ready: u128,
+}
+
+impl<'a> Model for Startable<'a> {
+    ghost use Rattle.fnc_journal.specs.Startable as Starts;
+    ghost use Rattle.fnc_judge.specs.Pursued as Pursued;
+
+    ghost Value = { Starts.Startable };
+
+    ghost view = { λ s. record { operation = Pursued.operation s.operation; task = s.task; ready = s.ready } };
+}
+
+fn counts_by(past: &Past<'_>, number: u32, run: u32, reg: u32) -> bool
+    ensures { result ≡ counts past.now number (record { run = run; reg = reg }) }
+{
+    !has_exit(past, run) && lane_of(past, reg) == number
+}
+
+fn is_alive_in(past: &Past<'_>, number: u32, event: &Event) -> bool
+    ensures { result ≡ counts_here past.now number event.now }
+{
+    match event {
+        Event::Start { run, reg, .. } => counts_by(past, number, run.0, reg.0),
+        _ => false,
+    }
+}
+
+fn alive_after(earlier: u32, past: &Past<'_>, number: u32, event: &Event) -> u32
+    requires { earlier < 2 ^ 32 - 1 }
+    ensures { result ≡ (if counts_here past.now number event.now then earlier + 1 else earlier) }
+{
+    if is_alive_in(past, number, event) {
+        earlier + 1
+    } else {
+        earlier
+    }
+}
+
+/// How many runs of a lane are alive.
+fn alive(past: &Past<'_>, number: u32) -> u32
+    ensures { result ≡ Starts.alive number past.now }
+{
+    let mut count = 0;
+    for i in 0..past.len() {
+        count = alive_after(count, past, number, &past.entry(i).event);
+    }
+    count
+}
+
+fn has_room(count: u32, cap: Option<u32>) -> bool
+    ensures { result ≡ Starts.has_room count cap }
+{
+    match cap {
+        Some(cap) => count < cap,
+        None => true,
+    }
+}
+
+fn has_place(past: &Past<'_>, task: &Task<'_>) -> bool
+    ensures { result ≡ Starts.has_room (Starts.alive (lane task.now.reg past.now) past.now) task.now.definition.cap }
+{
+    let number = lane_of(past, task.reg());
+    has_room(alive(past, number), task.cap())
+}
+
+fn may_start(past: &Past<'_>, moment: u64, task: &Task<'_>, ready: u128) -> bool
+    ensures { result ≡ (nat_le ready moment && Starts.has_room (Starts.alive (lane task.now.reg past.now) past.now) task.now.definition.cap) }
+{
+    ready <= u128::from(moment) && has_place(past, task)
+}
+
+fn startable_ready<'a>(
+    past: &Past<'a>,
+    moment: u64,
+    operation: Operation<'a>,
+    task: Task<'a>,
+    ready: Option<u128>,
+) -> Option<Startable<'a>>
+    ensures { result ≡ Starts.startable_ready past.now moment (Pursued.operation operation.entry) task.entry ready }
+{
+    let ready = ready?;
+    if may_start(past, moment, &task, ready) {
+        Some(Startable {
+            operation,
+            task,
+            ready,
+        })
+    } else {
+        None
+    }
+}
+
+/// The start that an operation may make at a moment.
+fn start_at<'a>(past: &Past<'a>, moment: u64, operation: Operation<'a>) -> Option<Startable<'a>>
+    ensures { result ≡ Starts.startable past.now moment (Pursued.operation operation.entry) }
+{
+    let task = standing(&operation, moment, past)?;
+    let ready = ready(&operation, moment, past, &task);
+    startable_ready(past, moment, operation, task, ready)
+}
+
+fn startable_of<'a>(
+    past: &Past<'a>,
+    moment: u64,
+    operation: Option<Operation<'a>>,
+) -> Option<Startable<'a>>
+    ensures { result ≡ startable_any past.now moment operation.entry }
+{
+    let operation = operation?;
+    start_at(past, moment, operation)
+}
+
+fn sooner<'a>(a: Startable<'a>, b: Startable<'a>) -> Startable<'a>
+    ensures { result ≡ Starts.sooner a.entry b.entry }
+{
+    if b.ready < a.ready { b } else { a }
+}
+
+fn soonest<'a>(a: Option<Startable<'a>>, b: Option<Startable<'a>>) -> Option<Startable<'a>>
+    ensures { result ≡ Starts.soonest a.entry b.entry }
+{
+    match (a, b) {
+        (Some(a), Some(b)) => Some(sooner(a, b)),
+        (None, b) => b,
+        (a, None) => a,
+    }
+}
+
+/// The first to start at a moment.
+pub(crate) fn first<'a>(past: &Past<'a>, moment: u64) -> Option<Startable<'a>>
+    ensures { result ≡ Starts.first past.now moment }
+{
+    let mut found = None;
+    for i in 0..past.len() {
+        let here = startable_of(past, moment, opened_by(past, &past.entry(i).event));
+        found = soonest(found, here);
+    }
+    found
+}

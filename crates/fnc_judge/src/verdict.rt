@@ -1,0 +1,31 @@
+// What is said of a whole journal.
+
+ghost use Rattle.std.specs.Prelude.{◌≡◌, ◌↔◌};
+ghost use Rattle.fnc_journal.specs.Lawful.{Lawful, fault};
+ghost use Rattle.fnc_judge.specs.Verdicts.{IsLawful, fault_of};
+
+use crate::past::Past;
+use crate::rules::broken;
+use fnc_journal::{Journal, Rule};
+
+/// What is said of a journal: that it is lawful, or which entry is the first that breaks a rule, and
+/// the first rule that it breaks.
+#[derive(Clone, Copy, Debug, PartialEq, Eq)]
+pub enum Verdict {
+    Lawful,
+    Unlawful { index: u32, rule: Rule },
+}
+
+/// Judges a journal, which may come from anywhere. It searches the entries before each entry anew,
+/// and takes no memory.
+pub fn judge(journal: &Journal) -> Verdict
+    ensures lawful { IsLawful result ↔ Lawful journal.now.history }
+    ensures fault { fault_of result ≡ fault journal.now.history }
+{
+    for index in 0..journal.len() {
+        if let Some(rule) = broken(journal.entry(index), &Past::of(journal, index)) {
+            return Verdict::Unlawful { index, rule };
+        }
+    }
+    Verdict::Lawful
+}
