@@ -1,0 +1,15 @@
+-- What the first of the list says of the queue.
+use Rattle.std.proofs.Common.{◌≡◌, ◌∙◌, ap₂}
+use Rattle.std.specs.Option.{option_copied}
+use Rattle.fnc_queue.specs.Places.{first_among, first_of}
+use Rattle.fnc_queue.proofs.FirstLemmas.{borrowed-some, borrowed-first}
+use Rattle.fnc_queue.proofs.queue.Queue.first.Goals as goal
+
+pub returns-clause-item : goal.returns-clause-item
+returns-clause-item c = rw (← c.self.view_is) (c.first_among.ensures ∙ ap₂ (first_among c.args.moment) c.deref-2.ensures.value c.deref.ensures.value)
+
+pub returns-clause-some : goal.returns-clause-some
+returns-clause-some c = borrowed-some _ _ _ (returns-clause-item c)
+
+pub returns-clause-least : goal.returns-clause-least
+returns-clause-least c = borrowed-first _ _ _ (returns-clause-item c)
