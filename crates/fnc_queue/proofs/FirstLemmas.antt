@@ -27,6 +27,22 @@ abbrev pub Leads : ℕ → List Reg → List Waiting → Option Waiting → Type
 Leads m alive items None = AllByRecursion (λ other. may_start m alive other ≡ false) items
 Leads m alive items (Some item) = Contains items item × (may_start m alive item ≡ true) × IsLeast m alive item items
 
+contains-later : (item other : Waiting) (items : List Waiting) → Contains items item → Contains (other ∷ items) item
+contains-later item other items (k, l, e) = (k + 1, omega (arith, l), rw add-one e)
+
+contains-here : (item : Waiting) (items : List Waiting) → Contains (item ∷ items) item
+contains-here item items = (0, omega arith, refl)
+
+-- its operation has a try that waits
+pub contained-waits : (item : Waiting) (items : List Waiting) → Contains items item → is_waiting item.req.0 items ≡ true
+contained-waits item [] (k, l, e) = absurd (omega (arith, l))
+contained-waits item (x ∷ items) (zero, l, e) = rw e (let same : (item.req.0 == item.req.0) ≡ true = eq-eqb item.req.0 item.req.0 refl in rw same refl)
+contained-waits item (x ∷ items) (suc k, l, e) = go (x.req.0 == item.req.0) (contained-waits item items (k, omega (arith, l), e))
+  where
+    go : (b : Bool) → is_waiting item.req.0 items ≡ true → (b || is_waiting item.req.0 items) ≡ true
+    go true h = refl
+    go false h = h
+
 module _ (m : ℕ) (alive : List Reg) where
   none-before : (item : Waiting) (items : List Waiting) → AllByRecursion (λ other. may_start m alive other ≡ false) items → IsLeast m alive item items
   none-before item [] a = tt
@@ -35,12 +51,6 @@ module _ (m : ℕ) (alive : List Reg) where
   later-before : (item first : Waiting) (items : List Waiting) → is_before first item ≡ false → IsLeast m alive first items → IsLeast m alive item items
   later-before item first [] h a = tt
   later-before item first (other ∷ items) h a = ((λ k. before-negative other first item (a.0 k) h), later-before item first items h a.1)
-
-  contains-later : (item other : Waiting) (items : List Waiting) → Contains items item → Contains (other ∷ items) item
-  contains-later item other items (k, l, e) = (k + 1, omega (arith, l), rw add-one e)
-
-  contains-here : (item : Waiting) (items : List Waiting) → Contains (item ∷ items) item
-  contains-here item items = (0, omega arith, refl)
 
   leads-more : (item : Waiting) (items : List Waiting) (o : Option Waiting) → Leads m alive items o → (b : Bool) → may_start m alive item ≡ b → Leads m alive (item ∷ items) (soonest (cond b (Some item) None) o)
   leads-more item items None a true e = (contains-here item items, e, ((λ _. before-irreflexive item), none-before item items a))
@@ -65,16 +75,6 @@ module _ (m : ℕ) (alive : List Reg) where
       go true None e = refl
       go true (Some x) e = refl
       go false o e = e
-
-  -- its operation has a try that waits
-  pub contained-waits : (item : Waiting) (items : List Waiting) → Contains items item → is_waiting item.req.0 items ≡ true
-  contained-waits item [] (k, l, e) = absurd (omega (arith, l))
-  contained-waits item (x ∷ items) (zero, l, e) = rw e (let same : (item.req.0 == item.req.0) ≡ true = eq-eqb item.req.0 item.req.0 refl in rw same refl)
-  contained-waits item (x ∷ items) (suc k, l, e) = go (x.req.0 == item.req.0) (contained-waits item items (k, omega (arith, l), e))
-    where
-      go : (b : Bool) → is_waiting item.req.0 items ≡ true → (b || is_waiting item.req.0 items) ≡ true
-      go true h = refl
-      go false h = h
 
 -- the first of a queue
 pub first-is-first : (m : ℕ) (q : Queued) (item : Waiting) → first_of m q ≡ Some item → IsFirst m q item

@@ -24,6 +24,7 @@ pub struct Queue {
 
 impl Model for Queue {
     ghost use Rattle.std.specs.Prelude.{◌≤◌, ◌<◌, ◌+◌, ◌^◌, vec_len, vec_capacity};
+    ghost use Rattle.fnc_queue.specs.Items.{InOrder};
     ghost use Rattle.fnc_queue.specs.Queued.{Queued};
 
     ghost Value = { Queued };
@@ -33,7 +34,8 @@ impl Model for Queue {
     ghost invariant = { λ q.
         (vec_len q.waiting + vec_len q.alive + q.spare ≤ vec_capacity q.waiting)
         × (vec_len q.waiting + vec_len q.alive + q.spare ≤ vec_capacity q.alive)
-        × (vec_len q.waiting + vec_len q.alive + q.spare < 2 ^ 32) };
+        × (vec_len q.waiting + vec_len q.alive + q.spare < 2 ^ 32)
+        × InOrder q.waiting.items };
 }
 
 impl Queue {
@@ -71,7 +73,8 @@ impl Queue {
     pub fn add(&mut self, item: Waiting)
         requires room { 0 < self.old.spare }
         requires other { Items.is_waiting item.req.0 self.old.waiting ≡ false }
-        ensures { self.new ≡ added item self.old }
+        ensures after { self.new ≡ added item self.old }
+        ensures changes { Items.Changes item.req.0 (Some item) self.old.waiting self.new.waiting }
     {
         items::insert(&mut self.waiting, item);
         self.spare -= 1;
@@ -82,6 +85,7 @@ impl Queue {
         ensures item { result ≡ Items.item_of req.0 self.old.waiting }
         ensures some { is_some result ≡ Items.is_waiting req.0 self.old.waiting }
         ensures after { self.new ≡ withdrawn req.0 self.old }
+        ensures changes { Items.Changes req.0 None self.old.waiting self.new.waiting }
     {
         let item = items::remove(&mut self.waiting, req)?;
         self.spare += 1;
@@ -105,6 +109,8 @@ impl Queue {
         ensures some { is_some result ≡ any_may_start moment self.old }
         ensures least { IfSome result (IsFirst moment self.old) }
         ensures after { self.new ≡ started (first_of moment self.old) self.old }
+        ensures changes { IfSome result (λ item. Items.Changes item.req.0 None self.old.waiting self.new.waiting) }
+        ensures counts { IfSome result (λ item. Lanes.CountsOneMore item.lane.0 self.old.alive self.new.alive) }
     {
         let item = *self.first(moment)?;
         items::remove(&mut self.waiting, item.req);
@@ -115,7 +121,8 @@ impl Queue {
     /// A run of a lane has ended, and gives its place back.
     pub fn ended(&mut self, lane: Reg)
         requires { 0 < Lanes.lane_count lane.0 self.old.alive }
-        ensures { self.new ≡ ended lane.0 self.old }
+        ensures after { self.new ≡ ended lane.0 self.old }
+        ensures counts { Lanes.CountsOneMore lane.0 self.new.alive self.old.alive }
     {
         lanes::remove(&mut self.alive, lane);
         self.spare += 1;

@@ -1,8 +1,19 @@
--- What the first of the list says of the queue.
-use Rattle.std.proofs.Common.{◌≡◌, ◌∙◌, ap, sym, is_some, Some, None, Option, refl, IfSome, subst}
-use Rattle.std.specs.Option.{option_copied}
-use Rattle.fnc_queue.specs.Places.{first_of, any_may_start, IsFirst}
+-- The run takes the place of the item that waited for it.
+use Rattle.std.proofs.Common.{ℕ, Bool, true, ◌≡◌, ◌∙◌, ◌+◌, ap, sym, subst, cond, is_some, vec_len, arith}
+use Rattle.fnc_queue.specs.Items.{is_waiting}
+use Rattle.fnc_queue.specs.Places.{IsFirst}
+use Rattle.fnc_queue.proofs.FirstLemmas.{contained-waits}
 use Rattle.fnc_queue.proofs.queue.Queue.take_first.Goals as goal
 
 pub invariant_of-self : goal.invariant_of-self
-invariant_of-self c = ?
+invariant_of-self c =
+    let first : IsFirst c.args.moment c.args.self.now c.in_ok-item.field-0.now = c.in_ok-item.ensures.least in
+    let waits : is_waiting c.in_ok-item.field-0.now.req.0 c.self.inside.waiting.items ≡ true =
+    ap (λ q. is_waiting c.in_ok-item.field-0.now.req.0 q.waiting) c.self.view_is ∙ contained-waits c.in_ok-item.field-0.now c.args.self.now.waiting first.waits in
+    let gone : vec_len c.remove.new.items + 1 ≡ vec_len c.self.inside.waiting =
+    subst (λ (found : Bool). cond found (vec_len c.remove.new.items + 1) (vec_len c.remove.new.items) ≡ vec_len c.self.inside.waiting) (c.remove.ensures.found ∙ waits) c.remove.ensures.len in
+    let room = c.self.invariant in
+    (omega (arith, gone, room, c.remove.ensures.capacity, c.insert.ensures.len, c.insert.ensures.capacity),
+     omega (arith, gone, room, c.remove.ensures.capacity, c.insert.ensures.len, c.insert.ensures.capacity),
+     omega (arith, gone, room, c.remove.ensures.capacity, c.insert.ensures.len, c.insert.ensures.capacity),
+     c.remove.ensures.order)
