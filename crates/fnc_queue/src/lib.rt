@@ -9,3 +9,6 @@ mod waiting;
 
 pub use queue::Queue;
 pub use waiting::Waiting;
+
+#[cfg(test)]
+mod tests;

@@ -70,7 +70,11 @@ fn candidate<'a>(item: &'a Waiting, moment: u64, alive: &[Reg]) -> Option<&'a Wa
 }
 
 /// The first to start of these items at a moment while these runs are alive.
-pub(crate) fn first_among<'a>(items: &'a [Waiting], moment: u64, alive: &[Reg]) -> Option<&'a Waiting>
+pub(crate) fn first_among<'a>(
+    items: &'a [Waiting],
+    moment: u64,
+    alive: &[Reg],
+) -> Option<&'a Waiting>
     requires { length alive.now < 2 ^ 32 }
     ensures { option_copied result ≡ Places.first_among moment alive.now items.now }
 {

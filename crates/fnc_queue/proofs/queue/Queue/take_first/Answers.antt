@@ -12,8 +12,9 @@ invariant_of-self c =
     ap (λ q. is_waiting c.in_ok-item.field-0.now.req.0 q.waiting) c.self.view_is ∙ contained-waits c.in_ok-item.field-0.now c.args.self.now.waiting first.waits in
     let gone : vec_len c.remove.new.items + 1 ≡ vec_len c.self.inside.waiting =
     subst (λ (found : Bool). cond found (vec_len c.remove.new.items + 1) (vec_len c.remove.new.items) ≡ vec_len c.self.inside.waiting) (c.remove.ensures.found ∙ waits) c.remove.ensures.len in
-    let room = c.self.invariant in
-    (omega (arith, gone, room, c.remove.ensures.capacity, c.insert.ensures.len, c.insert.ensures.capacity),
-     omega (arith, gone, room, c.remove.ensures.capacity, c.insert.ensures.len, c.insert.ensures.capacity),
-     omega (arith, gone, room, c.remove.ensures.capacity, c.insert.ensures.len, c.insert.ensures.capacity),
-     c.remove.ensures.order)
+    let room = c.self.invariant in (
+      omega (arith, gone, room, c.remove.ensures.capacity, c.insert.ensures.len, c.insert.ensures.capacity),
+      omega (arith, gone, room, c.remove.ensures.capacity, c.insert.ensures.len, c.insert.ensures.capacity),
+      omega (arith, gone, room, c.remove.ensures.capacity, c.insert.ensures.len, c.insert.ensures.capacity),
+      c.remove.ensures.order,
+    )
