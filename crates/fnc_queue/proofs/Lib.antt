@@ -1,0 +1,5 @@
+pub mod ItemLemmas
+pub mod LaneLemmas
+pub mod FirstLemmas
+pub mod OrderLemmas
+pub mod Numbers

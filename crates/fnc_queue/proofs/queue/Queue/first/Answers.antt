@@ -1,0 +1,14 @@
+-- What the first of the list says of the queue.
+use Rattle.std.proofs.Common.{◌∙◌, ap₂}
+use Rattle.fnc_queue.specs.Places.{first_among}
+use Rattle.fnc_queue.proofs.FirstLemmas.{borrowed-some, borrowed-first}
+use Rattle.fnc_queue.proofs.queue.Queue.first.Goals as goal
+
+pub returns-clause-item : goal.returns-clause-item
+returns-clause-item c = rw (← c.self.view_is) (c.first_among.ensures ∙ ap₂ (first_among c.args.moment) c.deref-2.ensures.value c.deref.ensures.value)
+
+pub returns-clause-some : goal.returns-clause-some
+returns-clause-some c = borrowed-some c.args.moment c.args.self.now c.first_among.result (returns-clause-item c)
+
+pub returns-clause-least : goal.returns-clause-least
+returns-clause-least c = borrowed-first c.args.moment c.args.self.now c.first_among.result (returns-clause-item c)

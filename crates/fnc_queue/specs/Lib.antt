@@ -1,0 +1,4 @@
+pub mod Items
+pub mod Lanes
+pub mod Queued
+pub mod Places
