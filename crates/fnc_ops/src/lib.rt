@@ -1,0 +1,5 @@
+// The records of open operations: what the starts and exits of their runs say of their slots and levels.
+// Each answer that is read off a record equals the definition's search of the journal.
+#![tactic(auto)]
+
+mod slot;
