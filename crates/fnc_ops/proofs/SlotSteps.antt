@@ -14,8 +14,8 @@ use Rattle.fnc_ops.specs.SlotRecords.{capped, earlier_or, is_in_time, started, s
 use Rattle.fnc_ops.specs.SlotFacts.{IsSlot}
 
 -- what fits is not cut
-pub capped_8 : (n : ℕ) → n < 256 → capped 8 n ≡ n
-capped_8 n h = omega arith
+pub capped_32 : (n : ℕ) → n < 2 ^ 32 → capped 32 n ≡ n
+capped_32 n h = omega arith
 
 pub capped_64 : (n : ℕ) → n < 2 ^ 64 → capped 64 n ≡ n
 capped_64 n h = omega arith
@@ -29,7 +29,7 @@ end_started : (at : Option ℕ) (m k : ℕ) → earlier_or (option_map (λ b. b 
 end_started None m k = refl
 end_started (Some b) m k = refl
 
-started-same : (o : Operation) (r : SlotRecord) (t : Task) (m run : ℕ) (s : Slot) (xs : List Act) → IsSlot o xs r t → runs t.slot xs < 255 → m + time t < 2 ^ 64 → same_slot t.slot s ≡ true →
+started-same : (o : Operation) (r : SlotRecord) (t : Task) (m run : ℕ) (s : Slot) (xs : List Act) → IsSlot o xs r t → runs t.slot xs + 1 < 2 ^ 32 → m + time t < 2 ^ 64 → same_slot t.slot s ≡ true →
     IsSlot o (Act.Begun m run s ∷ xs) (started_same m r) t
 started-same o r t m run s xs h few short e = record {
   slot = h.slot;
@@ -38,7 +38,7 @@ started-same o r t m run s xs h few short e = record {
   time_is = h.time_is;
   tries_is = h.tries_is;
   delay_is = h.delay_is;
-  runs_are = rw (e, h.runs_are) (capped_8 (runs t.slot xs + 1) (omega arith));
+  runs_are = rw (e, h.runs_are) (capped_32 (runs t.slot xs + 1) (omega arith));
   failed_are = h.failed_are;
   succeeded = h.succeeded;
   listed = h.listed;
@@ -67,7 +67,7 @@ started-other o r t m run s xs h e = record {
 }
 
 -- a start, where the slot has had fewer runs than can be counted
-pub slot-started : (o : Operation) (r : SlotRecord) (t : Task) (m run : ℕ) (s : Slot) (xs : List Act) → IsSlot o xs r t → runs t.slot xs < 255 → m + time t < 2 ^ 64 →
+pub slot-started : (o : Operation) (r : SlotRecord) (t : Task) (m run : ℕ) (s : Slot) (xs : List Act) → IsSlot o xs r t → runs t.slot xs + 1 < 2 ^ 32 → m + time t < 2 ^ 64 →
     IsSlot o (Act.Begun m run s ∷ xs) (started s m r) t
 slot-started o r t m run s xs h few short = go (same_slot t.slot s) refl
   where
@@ -86,15 +86,15 @@ failed_at_is : (b : Bool) (x : Option ℕ) (m : ℕ) → cond b (earlier_or x m)
 failed_at_is true x m = earlier_is x m
 failed_at_is false x m = refl
 
-ended-same : (o : Operation) (r : SlotRecord) (t : Task) (m : ℕ) (s : Slot) (exit : Exit) (listed : Bool) (xs : List Act) → IsSlot o xs r t → failed t o.over xs < 255 → same_slot t.slot s ≡ true →
+ended-same : (o : Operation) (r : SlotRecord) (t : Task) (m : ℕ) (s : Slot) (exit : Exit) (listed : Bool) (xs : List Act) → IsSlot o xs r t → failed t o.over xs + 1 < 2 ^ 32 → same_slot t.slot s ≡ true →
     IsSlot o (Act.Ended m s exit listed ∷ xs) (ended_same exit listed o.over m r) t
 ended-same o r t m s exit listed xs h few e = go (is_below m (limit t o.over xs)) refl (is_success t.kind exit) refl
   where
     time_test : is_in_time o.over m r.end ≡ is_below m (limit t o.over xs)
     time_test = in_time_is o.over m r.end ∙ ap (λ k. is_below m (option_map (min o.over) k)) h.end_is
 
-    more : capped 8 (failed t o.over xs + 1) ≡ failed t o.over xs + 1
-    more = capped_8 (failed t o.over xs + 1) (omega arith)
+    more : capped 32 (failed t o.over xs + 1) ≡ failed t o.over xs + 1
+    more = capped_32 (failed t o.over xs + 1) (omega arith)
 
     kind_test : is_success r.kind exit ≡ is_success t.kind exit
     kind_test = ap (λ k. is_success k exit) h.kind
@@ -170,7 +170,7 @@ ended-other o r t m s exit listed xs h e = record {
 }
 
 -- an exit, where fewer tries have failed than can be counted
-pub slot-ended : (o : Operation) (r : SlotRecord) (t : Task) (m : ℕ) (s : Slot) (exit : Exit) (listed : Bool) (xs : List Act) → IsSlot o xs r t → failed t o.over xs < 255 →
+pub slot-ended : (o : Operation) (r : SlotRecord) (t : Task) (m : ℕ) (s : Slot) (exit : Exit) (listed : Bool) (xs : List Act) → IsSlot o xs r t → failed t o.over xs + 1 < 2 ^ 32 →
     IsSlot o (Act.Ended m s exit listed ∷ xs) (ended s exit listed o.over m r) t
 slot-ended o r t m s exit listed xs h few = go (same_slot t.slot s) refl
   where

@@ -49,7 +49,7 @@ ready since r = ready_by since r.delay r.last
 
 -- after a start of one of its own runs
 abbrev pub started_same : ℕ → SlotRecord → SlotRecord
-started_same m r = record r { runs = capped 8 (r.runs + 1); last = LastRun.Alive m; end = earlier_or r.end (capped 64 (m + r.time)) }
+started_same m r = record r { runs = capped 32 (r.runs + 1); last = LastRun.Alive m; end = earlier_or r.end (capped 64 (m + r.time)) }
 
 -- after a start of one of the operation's runs
 abbrev pub started : Slot → ℕ → SlotRecord → SlotRecord
@@ -68,9 +68,9 @@ succeeded_now listed m r =
 -- after a failure in time
 abbrev pub failed_now : ℕ → SlotRecord → SlotRecord
 failed_now m r = record r {
-  failed = capped 8 (r.failed + 1);
+  failed = capped 32 (r.failed + 1);
   last = LastRun.EndedAt m;
-  failed_at = if capped 8 (r.failed + 1) == r.tries then earlier_or r.failed_at m else r.failed_at;
+  failed_at = if capped 32 (r.failed + 1) == r.tries then earlier_or r.failed_at m else r.failed_at;
 }
 
 -- after an exit of one of its own runs

@@ -27,8 +27,8 @@ pub(crate) struct SlotRecord {
     pub time: u64,
     pub tries: u8,
     pub delay: u64,
-    pub runs: u8,
-    pub failed: u8,
+    pub runs: u32,
+    pub failed: u32,
     pub succeeded: bool,
     pub listed: bool,
     pub end: Option<u64>,
@@ -83,7 +83,7 @@ impl SlotRecord {
     pub fn is_spent(&self, moment: u64) -> bool
         ensures { result ≡ SlotRecords.is_spent moment self.now }
     {
-        self.failed == self.tries || self.has_ended(moment)
+        self.failed == u32::from(self.tries) || self.has_ended(moment)
     }
 
     /// Whether it has succeeded or is spent.
@@ -119,7 +119,11 @@ impl SlotRecord {
     pub fn attempt(&self) -> u8
         ensures { result ≡ SlotRecords.attempt self.now }
     {
-        self.runs.saturating_add(1)
+        if self.runs < 255 {
+            self.runs as u8 + 1
+        } else {
+            255
+        }
     }
 
     /// When its next try is ready, where the operation stands here since a moment; while a run is alive,
@@ -157,7 +161,7 @@ impl SlotRecord {
     {
         self.failed = self.failed.saturating_add(1);
         self.last = LastRun::EndedAt(moment);
-        if self.failed == self.tries {
+        if self.failed == u32::from(self.tries) {
             self.failed_at = earlier_or(self.failed_at, moment);
         }
     }
