@@ -1,2 +1,5 @@
 pub mod SlotRecords
 pub mod SlotFacts
+pub mod KeptLevel
+pub mod LevelRecords
+pub mod LevelFacts

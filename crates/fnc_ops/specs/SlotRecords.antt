@@ -1,6 +1,6 @@
 -- What the record of a slot says, and what it becomes by the starts and exits of its operation's runs.
 -- Numbers are cut where they would not fit; of an operation that stands in a lawful journal none is.
-use Rattle.std.specs.Prelude.{ℕ, Bool, true, false, ◌==◌, ◌+◌, ◌-◌, ◌^◌, min, ◌||◌, ◌&&◌, not, nat_lt, if◌then◌else◌, Option, Some, None, option_map, unwrap_or}
+use Rattle.std.specs.Prelude.{ℕ, Bool, true, false, ◌==◌, ◌+◌, ◌-◌, ◌^◌, min, max, ◌||◌, ◌&&◌, not, nat_lt, if◌then◌else◌, Option, Some, None, option_map, unwrap_or}
 use Rattle.fnc_journal.specs.declared.entry.Exit.{Exit}
 use Rattle.fnc_journal.specs.declared.entry.Slot.{Slot}
 use Rattle.fnc_journal.specs.Exits.{is_success}
@@ -29,6 +29,14 @@ is_concluded m r = r.succeeded || is_spent m r
 -- when it was concluded
 abbrev pub concluded_at : ℕ → SlotRecord → ℕ
 concluded_at begin r = unwrap_or (least_of r.succeeded_at (least_of r.failed_at r.end)) begin
+
+-- the greater of a moment and that at which it was concluded, where it is
+abbrev pub later : ℕ → ℕ → ℕ → SlotRecord → ℕ
+later begin m at r = if is_concluded m r then max at (concluded_at begin r) else at
+
+-- the same slot of the level of this number
+abbrev pub at_level : ℕ → SlotRecord → SlotRecord
+at_level index r = record r { slot = record { phase = r.slot.phase; level = index; place = r.slot.place } }
 
 -- its limit, once it was started
 abbrev pub limit : ℕ → SlotRecord → Option ℕ

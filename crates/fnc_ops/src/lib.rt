@@ -2,4 +2,5 @@
 // Each answer that is read off a record equals the definition's search of the journal.
 #![tactic(auto)]
 
+mod level;
 mod slot;

@@ -104,6 +104,24 @@ impl SlotRecord {
         }
     }
 
+    /// The greater of a moment and that at which it was concluded, where it is.
+    pub fn later(&self, begin: u64, moment: u64, at: u64) -> u64
+        ensures { result ≡ SlotRecords.later begin moment at self.now }
+    {
+        if self.is_concluded(moment) {
+            at.max(self.concluded_at(begin))
+        } else {
+            at
+        }
+    }
+
+    /// Its level is known now.
+    pub fn take_level(&mut self, index: u8)
+        ensures { self.new ≡ SlotRecords.at_level index self.old }
+    {
+        self.slot.level = index;
+    }
+
     /// The slot's limit, once it was started: its action's end, or the moment at which the operation's
     /// total is over where that comes first.
     pub fn limit(&self, over: u64) -> Option<u64>
