@@ -1,5 +1,5 @@
 -- When the record of a level is what the starts and exits of its operation's runs say.
-use Rattle.std.specs.Prelude.{ℕ, List, Bool, true, false, ◌≡◌, ◌<◌, ◌+◌, ◌^◌, length, Option, Some, None}
+use Rattle.std.specs.Prelude.{List, true, false, ◌≡◌, ◌<◌, ◌+◌, ◌^◌, length, Option, Some, None}
 use Rattle.std.specs.List.{AllZip}
 use Rattle.fnc_journal.specs.Device.{delay}
 use Rattle.fnc_journal.specs.Slots.{Task, Operation, Rank, time}
