@@ -1,5 +1,5 @@
 -- What the record of a level says, and what it becomes by the starts and exits of its operation's runs.
-use Rattle.std.specs.Prelude.{ℕ, List, [], ◌∷◌, Bool, true, ◌||◌, ◌&&◌, not, nat_le, map, find, Option, Some, None, option_map}
+use Rattle.std.specs.Prelude.{ℕ, List, [], ◌∷◌, Bool, true, ◌||◌, ◌&&◌, not, nat_le, if◌then◌else◌, map, find, Option, Some, None, option_map}
 use Rattle.std.specs.List.{list_any, list_all}
 use Rattle.std.specs.Option.{option_or}
 use Rattle.fnc_journal.specs.declared.entry.Exit.{Exit}
@@ -17,6 +17,15 @@ query_concluded m (Some q) = is_concluded m q
 -- whether the level's query is
 abbrev pub is_queried : ℕ → KeptLevel → Bool
 is_queried m l = query_concluded m l.query
+
+-- the query, where it is not concluded
+abbrev pub open_of : ℕ → Option SlotRecord → Option SlotRecord
+open_of m None = None
+open_of m (Some q) = if is_concluded m q then None else Some q
+
+-- the level's query, where it is not concluded
+abbrev pub open_query : ℕ → KeptLevel → Option SlotRecord
+open_query m l = open_of m l.query
 
 -- whether the candidate of a query is capable
 abbrev pub capable_query : Option SlotRecord → Bool
@@ -51,6 +60,10 @@ latest begin m at (r ∷ rs) = latest begin m (later begin m at r) rs
 -- with the level's slots
 abbrev pub latest_in : ℕ → ℕ → ℕ → KeptLevel → ℕ
 latest_in begin m at l = latest begin m (latest begin m at l.firsts) l.ons
+
+-- with the level's slots, where it is tried
+abbrev pub latest_tried : ℕ → ℕ → ℕ → KeptLevel → ℕ
+latest_tried begin m at l = if l.tried then latest_in begin m at l else at
 
 -- with a query that may not be there
 abbrev pub later_query : ℕ → ℕ → ℕ → Option SlotRecord → ℕ

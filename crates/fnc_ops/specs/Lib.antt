@@ -3,3 +3,5 @@ pub mod SlotFacts
 pub mod KeptLevel
 pub mod LevelRecords
 pub mod LevelFacts
+pub mod KeptOperation
+pub mod OperationRecords

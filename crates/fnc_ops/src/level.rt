@@ -107,6 +107,22 @@ impl LevelRecord {
         }
     }
 
+    /// Its query, where that is not concluded.
+    pub fn open_query(&self, moment: u64) -> Option<&SlotRecord>
+        ensures { option_copied result ≡ LevelRecords.open_query moment self.now }
+    {
+        match &self.query {
+            None => None,
+            Some(query) => {
+                if query.is_concluded(moment) {
+                    None
+                } else {
+                    Some(query)
+                }
+            }
+        }
+    }
+
     /// Whether its device can fence the target, as far as its query says.
     pub fn is_capable(&self) -> bool
         ensures { result ≡ LevelRecords.is_capable self.now }
@@ -149,6 +165,17 @@ impl LevelRecord {
         ensures { result ≡ LevelRecords.latest_in begin moment at self.now }
     {
         latest(&self.ons, begin, moment, latest(&self.firsts, begin, moment, at))
+    }
+
+    /// The same, where it is tried.
+    pub fn latest_tried(&self, begin: u64, moment: u64, at: u64) -> u64
+        ensures { result ≡ LevelRecords.latest_tried begin moment at self.now }
+    {
+        if self.tried {
+            self.latest(begin, moment, at)
+        } else {
+            at
+        }
     }
 
     /// The greatest of a moment and that at which its query was concluded.

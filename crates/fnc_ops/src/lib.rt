@@ -3,4 +3,7 @@
 #![tactic(auto)]
 
 mod level;
+mod operation;
 mod slot;
+
+pub use operation::Standing;

@@ -1,0 +1,58 @@
+-- What the record of an operation says.
+use Rattle.std.specs.Prelude.{ℕ, List, [], ◌∷◌, Bool, ◌||◌, ◌&&◌, not, nat_le, if◌then◌else◌, find, Option, Some, None, option_map, option_and_then}
+use Rattle.std.specs.List.{list_any, list_all}
+use Rattle.std.specs.Option.{option_or}
+use Rattle.fnc_journal.specs.declared.entry.Answer.{Answer}
+use Rattle.fnc_journal.specs.Device.{cuts_power}
+use Rattle.fnc_ops.specs.declared.slot.SlotRecord.{SlotRecord}
+use Rattle.fnc_ops.specs.KeptLevel.{KeptLevel}
+use Rattle.fnc_ops.specs.KeptOperation.{KeptOperation}
+use Rattle.fnc_ops.specs.LevelRecords.{is_queried, open_query, is_lost, is_done, standing_in, latest_query, latest_tried}
+
+-- the first query that is not concluded
+abbrev pub first_query : ℕ → List KeptLevel → Option SlotRecord
+first_query m [] = None
+first_query m (l ∷ ls) = option_or (open_query m l) (first_query m ls)
+
+-- a level that is tried and not lost
+abbrev pub is_kept : ℕ → KeptLevel → Bool
+is_kept m l = l.tried && not (is_lost m l)
+
+-- the slot at which the operation stands
+abbrev pub standing_slot : ℕ → KeptOperation → Option SlotRecord
+standing_slot m o = option_or (first_query m o.levels) (option_and_then (standing_in m) (find (is_kept m) o.levels))
+
+-- the greatest of a moment and those at which the concluded queries were concluded
+abbrev pub latest_queries : ℕ → ℕ → ℕ → List KeptLevel → ℕ
+latest_queries begin m at [] = at
+latest_queries begin m at (l ∷ ls) = latest_queries begin m (latest_query begin m at l) ls
+
+-- the same with the slots of the levels that are tried
+abbrev pub latest_levels : ℕ → ℕ → ℕ → List KeptLevel → ℕ
+latest_levels begin m at [] = at
+latest_levels begin m at (l ∷ ls) = latest_levels begin m (latest_tried begin m at l) ls
+
+-- since when it stands where it stands
+abbrev pub since : ℕ → KeptOperation → ℕ
+since m o = latest_levels o.begin m (latest_queries o.begin m o.begin o.levels) o.levels
+
+-- the number of the level that passes
+abbrev pub passed : ℕ → ℕ → List KeptLevel → Option ℕ
+passed over m [] = None
+passed over m (l ∷ ls) =
+    if l.tried
+    then (if not l.unfit && is_done over m l then Some l.index else (if is_lost m l then passed over m ls else None))
+    else passed over m ls
+
+-- no device is capable, every level is lost, or the time is over
+abbrev pub failure_due : ℕ → KeptOperation → Option Answer
+failure_due m o =
+    if list_all (is_queried m) o.levels && list_all (λ l. not (is_kept m l)) o.levels
+    then (if list_any (λ l. l.tried) o.levels then Some Answer.Levels else Some Answer.NoDevice)
+    else (if nat_le o.over m then Some Answer.Time else None)
+
+-- the answer that is due
+abbrev pub due : ℕ → KeptOperation → Option Answer
+due m o =
+    if o.confirmed && cuts_power o.kind then Some Answer.Confirmed
+    else option_or (option_map (λ l. Answer.Passed l) (passed o.over m o.levels)) (failure_due m o)
