@@ -13,7 +13,8 @@ use Rattle.fnc_ops.specs.LevelRecords as LevelRecords
 use Rattle.fnc_ops.specs.LevelRecords.{is_lost_by, capable_query}
 use Rattle.fnc_ops.specs.LevelFacts.{IsLevelSlot, IsQuery, IsLevel}
 use Rattle.fnc_ops.proofs.SlotAnswers.{spent_is, concluded_is, confirmed_is, answered_is}
-use Rattle.fnc_ops.proofs.Zip.{BothOr, zip_all, zip_any, zip_find}
+use Rattle.fnc_ops.specs.SlotFacts.{BothOr}
+use Rattle.fnc_ops.proofs.Zip.{zip_all, zip_any, zip_find}
 
 module _ (o : Operation) (m : ℕ) (xs : List Act) where
   lost_by_is : (r : SlotRecord) (t : Task) → IsLevelSlot o xs r t → is_lost_by m r ≡ Standing.is_lost_by o m xs t

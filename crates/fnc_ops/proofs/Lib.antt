@@ -4,3 +4,6 @@ pub mod Counts
 pub mod Zip
 pub mod LevelSteps
 pub mod LevelAnswers
+pub mod LevelLists
+pub mod Latest
+pub mod OperationAnswers

@@ -1,7 +1,8 @@
 -- Tests and searches of two lists whose elements are related place by place.
-use Rattle.std.proofs.Common.{List, [], ◌∷◌, Bool, true, false, ◌≡◌, refl, Option, Some, None, cond, map}
+use Rattle.std.proofs.Common.{List, [], ◌∷◌, ◌++◌, Bool, true, false, ◌≡◌, refl, Some, cond, map}
 use Rattle.std.specs.Prelude.{find, filter}
 use Rattle.std.specs.List.{list_any, list_all, AllZip}
+use Rattle.fnc_ops.specs.SlotFacts.{BothOr}
 
 pub zip_all : {A B : Type 0} (R : A → B → Type 0) (p : A → Bool) (q : B → Bool) → ((x : A) (y : B) → R x y → p x ≡ q y) →
     (xs : List A) (ys : List B) → AllZip R xs ys → list_all p xs ≡ list_all q ys
@@ -16,13 +17,6 @@ zip_any R p q h [] [] z = refl
 zip_any R p q h [] (y ∷ ys) z = absurd z
 zip_any R p q h (x ∷ xs) [] z = absurd z
 zip_any R p q h (x ∷ xs) (y ∷ ys) z = rw (h x y z.0, zip_any R p q h xs ys z.1) refl
-
--- two values that are both missing, or both there and related
-abbrev pub BothOr : {A B : Type 0} → (A → B → Type 0) → Option A → Option B → Type 0
-BothOr R None None = Unit {0}
-BothOr R None (Some y) = ⊥
-BothOr R (Some x) None = ⊥
-BothOr R (Some x) (Some y) = R x y
 
 pub zip_find : {A B : Type 0} (R : A → B → Type 0) (p : A → Bool) (q : B → Bool) → ((x : A) (y : B) → R x y → p x ≡ q y) →
     (xs : List A) (ys : List B) → AllZip R xs ys → BothOr R (find p xs) (find q ys)
@@ -53,3 +47,15 @@ zip_map R S f h [] [] z = tt
 zip_map R S f h [] (y ∷ ys) z = z
 zip_map R S f h (x ∷ xs) [] z = z
 zip_map R S f h (x ∷ xs) (y ∷ ys) z = (h x y z.0, zip_map R S f h xs ys z.1)
+
+pub zip_weaken : {A B : Type 0} (R S : A → B → Type 0) → ((x : A) (y : B) → R x y → S x y) → (xs : List A) (ys : List B) → AllZip R xs ys → AllZip S xs ys
+zip_weaken R S h [] [] z = tt
+zip_weaken R S h [] (y ∷ ys) z = z
+zip_weaken R S h (x ∷ xs) [] z = z
+zip_weaken R S h (x ∷ xs) (y ∷ ys) z = (h x y z.0, zip_weaken R S h xs ys z.1)
+
+pub zip_append : {A B : Type 0} (R : A → B → Type 0) (xs vs : List A) (ys ws : List B) → AllZip R xs ys → AllZip R vs ws → AllZip R (xs ++ vs) (ys ++ ws)
+zip_append R [] vs [] ws z y = y
+zip_append R [] vs (b ∷ ys) ws z y = absurd z
+zip_append R (a ∷ xs) vs [] ws z y = absurd z
+zip_append R (a ∷ xs) vs (b ∷ ys) ws z y = (z.0, zip_append R xs vs ys ws z.1 y)

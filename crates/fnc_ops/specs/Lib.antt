@@ -5,3 +5,4 @@ pub mod LevelRecords
 pub mod LevelFacts
 pub mod KeptOperation
 pub mod OperationRecords
+pub mod OperationFacts

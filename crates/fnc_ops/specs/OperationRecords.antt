@@ -1,12 +1,14 @@
 -- What the record of an operation says.
-use Rattle.std.specs.Prelude.{ℕ, List, [], ◌∷◌, Bool, ◌||◌, ◌&&◌, not, nat_le, if◌then◌else◌, find, Option, Some, None, option_map, option_and_then}
+use Rattle.std.specs.Prelude.{ℕ, List, [], ◌∷◌, Bool, ◌&&◌, not, nat_le, if◌then◌else◌, find, Option, Some, None, option_map, option_and_then}
 use Rattle.std.specs.List.{list_any, list_all}
 use Rattle.std.specs.Option.{option_or}
 use Rattle.fnc_journal.specs.declared.entry.Answer.{Answer}
 use Rattle.fnc_journal.specs.Device.{cuts_power}
+use Rattle.fnc_ops.specs.declared.operation.Standing.{Standing}
 use Rattle.fnc_ops.specs.declared.slot.SlotRecord.{SlotRecord}
 use Rattle.fnc_ops.specs.KeptLevel.{KeptLevel}
 use Rattle.fnc_ops.specs.KeptOperation.{KeptOperation}
+use Rattle.fnc_ops.specs.SlotRecords.{attempt, ready, limit}
 use Rattle.fnc_ops.specs.LevelRecords.{is_queried, open_query, is_lost, is_done, standing_in, latest_query, latest_tried}
 
 -- the first query that is not concluded
@@ -35,6 +37,14 @@ latest_levels begin m at (l ∷ ls) = latest_levels begin m (latest_tried begin 
 -- since when it stands where it stands
 abbrev pub since : ℕ → KeptOperation → ℕ
 since m o = latest_levels o.begin m (latest_queries o.begin m o.begin o.levels) o.levels
+
+-- what is told of the slot at which it stands
+abbrev pub standing_at : ℕ → ℕ → SlotRecord → Standing
+standing_at since over s = record { slot = s.slot; reg = s.reg; kind = s.kind; attempt = attempt s; ready = ready since s; limit = limit over s }
+
+-- where the operation stands
+abbrev pub standing : ℕ → KeptOperation → Option Standing
+standing m o = option_map (standing_at (since m o) o.over) (standing_slot m o)
 
 -- the number of the level that passes
 abbrev pub passed : ℕ → ℕ → List KeptLevel → Option ℕ

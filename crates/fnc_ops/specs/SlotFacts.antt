@@ -8,6 +8,13 @@ use Rattle.fnc_journal.specs.Acts.{Act, runs, failed, has_succeeded, has_listed,
 use Rattle.fnc_ops.specs.declared.slot.LastRun.{LastRun}
 use Rattle.fnc_ops.specs.declared.slot.SlotRecord.{SlotRecord}
 
+-- two values that are both missing, or both there and related
+abbrev pub BothOr : {A B : Type 0} → (A → B → Type 0) → Option A → Option B → Type 0
+BothOr R None None = Unit {0}
+BothOr R None (Some y) = ⊥
+BothOr R (Some x) None = ⊥
+BothOr R (Some x) (Some y) = R x y
+
 -- what an act says of the last run of its slot: since when it is alive, or when it ended
 abbrev pub last_here : Slot → Act → Option LastRun
 last_here s (Act.Begun moment run slot) = if same_slot s slot then Some (LastRun.Alive moment) else None

@@ -1,9 +1,14 @@
 // What is kept of an operation that is open.
 
-ghost use Rattle.std.specs.Prelude.{◌≡◌, find, not};
+ghost use Rattle.std.specs.Prelude.{◌≡◌, List, find, not};
 ghost use Rattle.std.specs.List.{list_all, list_any};
 ghost use Rattle.std.specs.Option.{option_copied};
 ghost use Rattle.fnc_journal.specs.Device as Device;
+ghost use Rattle.fnc_journal.specs.Slots.{Operation};
+ghost use Rattle.fnc_journal.specs.Acts.{Act};
+ghost use Rattle.fnc_journal.specs.Standing as Stands;
+ghost use Rattle.fnc_journal.specs.Due as Due;
+ghost use Rattle.fnc_ops.specs.OperationFacts.{IsOperation, IsStanding};
 ghost use Rattle.fnc_ops.specs.SlotRecords as SlotRecords;
 ghost use Rattle.fnc_ops.specs.LevelRecords as LevelRecords;
 ghost use Rattle.fnc_ops.specs.OperationRecords as OperationRecords;
@@ -159,6 +164,42 @@ impl OperationRecord {
         let begin = self.begin;
         let queried = latest_queries(&self.levels, begin, moment, begin);
         latest_levels(&self.levels, begin, moment, queried)
+    }
+
+    fn kept_standing(&self, moment: u64) -> Option<Standing>
+        ensures { result ≡ OperationRecords.standing moment self.now }
+    {
+        match self.standing_slot(moment) {
+            None => None,
+            Some(s) => Some(Standing {
+                slot: s.slot,
+                reg: s.reg,
+                kind: s.kind,
+                attempt: s.attempt(),
+                ready: s.ready(self.since(moment)),
+                limit: s.limit(self.over),
+            }),
+        }
+    }
+
+    /// Where the operation stands at a moment. None where it stands nowhere.
+    pub fn standing(&self, moment: u64) -> Option<Standing>
+        ensures {
+            (o : Operation) (xs : List Act) → IsOperation moment xs self.now o →
+            IsStanding o moment xs result (Stands.standing o moment xs)
+        }
+    {
+        self.kept_standing(moment)
+    }
+
+    /// The answer that is due to the operation at a moment. None where none is.
+    pub fn due(&self, moment: u64) -> Option<Answer>
+        ensures {
+            (o : Operation) (xs : List Act) → IsOperation moment xs self.now o →
+            result ≡ Due.due o moment self.now.confirmed xs
+        }
+    {
+        self.kept_due(moment)
     }
 
     fn failure_due(&self, moment: u64) -> Option<Answer>
