@@ -1,5 +1,5 @@
 -- What the record of a level says, and what it becomes by the starts and exits of its operation's runs.
-use Rattle.std.specs.Prelude.{ℕ, List, [], ◌∷◌, Bool, true, ◌||◌, ◌&&◌, not, nat_le, if◌then◌else◌, map, find, Option, Some, None, option_map}
+use Rattle.std.specs.Prelude.{ℕ, List, [], ◌∷◌, Bool, true, ◌+◌, ◌||◌, ◌&&◌, not, nat_le, if◌then◌else◌, map, find, Option, Some, None, option_map}
 use Rattle.std.specs.List.{list_any, list_all}
 use Rattle.std.specs.Option.{option_or}
 use Rattle.fnc_journal.specs.declared.entry.Exit.{Exit}
@@ -7,7 +7,7 @@ use Rattle.fnc_journal.specs.declared.entry.Slot.{Slot}
 use Rattle.fnc_journal.specs.Standing.{capable_by}
 use Rattle.fnc_ops.specs.declared.slot.SlotRecord.{SlotRecord}
 use Rattle.fnc_ops.specs.KeptLevel.{KeptLevel}
-use Rattle.fnc_ops.specs.SlotRecords.{is_spent, is_concluded, later, at_level, started, ended}
+use Rattle.fnc_ops.specs.SlotRecords.{capped, is_spent, is_concluded, later, at_level, started, ended}
 
 -- whether a query that may not be there is concluded
 abbrev pub query_concluded : ℕ → Option SlotRecord → Bool
@@ -77,6 +77,14 @@ latest_query begin m at l = later_query begin m at l.query
 -- as the level of this number, which is tried
 abbrev pub ranked : ℕ → KeptLevel → KeptLevel
 ranked index l = record l { tried = true; index = index; firsts = map (at_level index) l.firsts }
+
+-- so where its device is capable
+abbrev pub ranked_if_capable : ℕ → KeptLevel → KeptLevel
+ranked_if_capable index l = if is_capable l then ranked index l else l
+
+-- the number of the next level
+abbrev pub next_rank : ℕ → KeptLevel → ℕ
+next_rank index l = if is_capable l then capped 8 (index + 1) else index
 
 -- after a start of one of the operation's runs
 abbrev pub level_started : Slot → ℕ → KeptLevel → KeptLevel

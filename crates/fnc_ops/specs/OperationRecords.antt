@@ -1,15 +1,18 @@
 -- What the record of an operation says.
-use Rattle.std.specs.Prelude.{ℕ, List, [], ◌∷◌, Bool, ◌&&◌, not, nat_le, if◌then◌else◌, find, Option, Some, None, option_map, option_and_then}
+use Rattle.std.specs.Prelude.{ℕ, List, [], ◌∷◌, Bool, ◌&&◌, not, nat_le, if◌then◌else◌, find, Option, Some, None, option_map, option_and_then, true, map, bytes_eq}
 use Rattle.std.specs.List.{list_any, list_all}
 use Rattle.std.specs.Option.{option_or}
 use Rattle.fnc_journal.specs.declared.entry.Answer.{Answer}
+use Rattle.fnc_journal.specs.declared.entry.Exit.{Exit}
+use Rattle.fnc_journal.specs.declared.entry.Req.{Req}
+use Rattle.fnc_journal.specs.declared.entry.Slot.{Slot}
 use Rattle.fnc_journal.specs.Device.{cuts_power}
 use Rattle.fnc_ops.specs.declared.operation.Standing.{Standing}
 use Rattle.fnc_ops.specs.declared.slot.SlotRecord.{SlotRecord}
 use Rattle.fnc_ops.specs.KeptLevel.{KeptLevel}
 use Rattle.fnc_ops.specs.KeptOperation.{KeptOperation}
 use Rattle.fnc_ops.specs.SlotRecords.{attempt, ready, limit}
-use Rattle.fnc_ops.specs.LevelRecords.{is_queried, open_query, is_lost, is_done, standing_in, latest_query, latest_tried}
+use Rattle.fnc_ops.specs.LevelRecords.{is_queried, open_query, is_lost, is_done, standing_in, latest_query, latest_tried, ranked_if_capable, next_rank, level_started, level_ended}
 
 -- the first query that is not concluded
 abbrev pub first_query : ℕ → List KeptLevel → Option SlotRecord
@@ -66,3 +69,40 @@ abbrev pub due : ℕ → KeptOperation → Option Answer
 due m o =
     if o.confirmed && cuts_power o.kind then Some Answer.Confirmed
     else option_or (option_map (λ l. Answer.Passed l) (passed o.over m o.levels)) (failure_due m o)
+
+-- the capable ones as the levels of these numbers
+abbrev pub ranked_levels : ℕ → List KeptLevel → List KeptLevel
+ranked_levels index [] = []
+ranked_levels index (l ∷ ls) = ranked_if_capable index l ∷ ranked_levels (next_rank index l) ls
+
+-- once all queries are concluded it is known which levels are tried
+abbrev pub ranked_if_queried : ℕ → KeptOperation → KeptOperation
+ranked_if_queried m o =
+    if not o.ranked && list_all (is_queried m) o.levels
+    then record o { ranked = true; levels = ranked_levels 1 o.levels }
+    else o
+
+-- the record at a later moment
+abbrev pub at_moment : ℕ → KeptOperation → KeptOperation
+at_moment m o = ranked_if_queried m (record o { moment = m })
+
+-- after a start of one of the operation's runs
+abbrev pub operation_started : Slot → ℕ → KeptOperation → KeptOperation
+operation_started s m o = record o { levels = map (level_started s m) o.levels }
+
+-- after an exit of one
+abbrev pub operation_ended : Slot → Exit → Bool → ℕ → KeptOperation → KeptOperation
+operation_ended s exit listed m o = ranked_if_queried m (record o { levels = map (level_ended s exit listed o.over m) o.levels })
+
+-- after an operator's word that a target is down
+abbrev pub operation_confirmed : List ℕ → KeptOperation → KeptOperation
+operation_confirmed target o = if bytes_eq target o.target then record o { confirmed = true } else o
+
+-- the requests without the first
+abbrev pub rest_of : List Req → List Req
+rest_of [] = []
+rest_of (r ∷ rs) = rs
+
+-- after a reply to the least request that waits
+abbrev pub replied : KeptOperation → KeptOperation
+replied o = record o { members = rest_of o.members }

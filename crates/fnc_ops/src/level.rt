@@ -189,12 +189,25 @@ impl LevelRecord {
     }
 
     /// It becomes the level of this number.
-    pub fn take_rank(&mut self, index: u8)
+    fn take_rank(&mut self, index: u8)
         ensures { self.new ≡ LevelRecords.ranked index self.old }
     {
         self.tried = true;
         self.index = index;
         number(&mut self.firsts, index);
+    }
+
+    /// Where its device is capable it becomes the level of this number. The number of the next one.
+    pub fn rank_from(&mut self, index: u8) -> u8
+        ensures level { self.new ≡ LevelRecords.ranked_if_capable index self.old }
+        ensures next { result ≡ LevelRecords.next_rank index self.old }
+    {
+        if self.is_capable() {
+            self.take_rank(index);
+            index.saturating_add(1)
+        } else {
+            index
+        }
     }
 
     /// A run of the operation was started, of one of these slots or of another one.

@@ -1,6 +1,6 @@
 // What is kept of an operation that is open.
 
-ghost use Rattle.std.specs.Prelude.{◌≡◌, List, find, not};
+ghost use Rattle.std.specs.Prelude.{◌≡◌, List, find, map, not};
 ghost use Rattle.std.specs.List.{list_all, list_any};
 ghost use Rattle.std.specs.Option.{option_copied};
 ghost use Rattle.fnc_journal.specs.Device as Device;
@@ -144,6 +144,32 @@ fn latest_levels(levels: &[LevelRecord], begin: u64, moment: u64, at: u64) -> u6
     latest
 }
 
+fn see_start(levels: &mut [LevelRecord], slot: Slot, moment: u64)
+    ensures { levels.new ≡ map (LevelRecords.level_started slot moment) levels.old }
+{
+    for level in levels.iter_mut() {
+        level.see_start(slot, moment);
+    }
+}
+
+fn see_exit(levels: &mut [LevelRecord], slot: Slot, exit: Exit, listed: bool, over: u64, moment: u64)
+    ensures { levels.new ≡ map (LevelRecords.level_ended slot exit listed over moment) levels.old }
+{
+    for level in levels.iter_mut() {
+        level.see_exit(slot, exit, listed, over, moment);
+    }
+}
+
+/// The capable candidates become the levels 1, 2, 3 and so on.
+fn rank(levels: &mut [LevelRecord])
+    ensures { levels.new ≡ OperationRecords.ranked_levels 1 levels.old }
+{
+    let mut index = 1;
+    for level in levels.iter_mut() {
+        index = level.rank_from(index);
+    }
+}
+
 impl OperationRecord {
     fn standing_slot(&self, moment: u64) -> Option<&SlotRecord>
         ensures { option_copied result ≡ OperationRecords.standing_slot moment self.now }
@@ -227,6 +253,57 @@ impl OperationRecord {
         match passed(&self.levels, self.over, moment) {
             Some(index) => Some(Answer::Passed(index)),
             None => self.failure_due(moment),
+        }
+    }
+
+    fn rank_if_queried(&mut self, moment: u64)
+        ensures { self.new ≡ OperationRecords.ranked_if_queried moment self.old }
+    {
+        if !self.ranked && all_queried(&self.levels, moment) {
+            rank(&mut self.levels);
+            self.ranked = true;
+        }
+    }
+
+    /// A later moment has come.
+    pub fn see_moment(&mut self, moment: u64)
+        ensures { self.new ≡ OperationRecords.at_moment moment self.old }
+    {
+        self.moment = moment;
+        self.rank_if_queried(moment);
+    }
+
+    /// A run of the operation was started.
+    pub fn see_start(&mut self, slot: Slot, moment: u64)
+        ensures { self.new ≡ OperationRecords.operation_started slot moment self.old }
+    {
+        see_start(&mut self.levels, slot, moment);
+    }
+
+    /// A run of the operation has ended.
+    pub fn see_exit(&mut self, slot: Slot, exit: Exit, listed: bool, moment: u64)
+        ensures { self.new ≡ OperationRecords.operation_ended slot exit listed moment self.old }
+    {
+        let over = self.over;
+        see_exit(&mut self.levels, slot, exit, listed, over, moment);
+        self.rank_if_queried(moment);
+    }
+
+    /// An operator said that a target is down.
+    pub fn see_confirm(&mut self, target: &str)
+        ensures { self.new ≡ OperationRecords.operation_confirmed target.now self.old }
+    {
+        if self.target.is(target) {
+            self.confirmed = true;
+        }
+    }
+
+    /// The least request that waits was answered.
+    pub fn see_reply(&mut self)
+        ensures { self.new ≡ OperationRecords.replied self.old }
+    {
+        if !self.members.is_empty() {
+            self.members.remove(0);
         }
     }
 }
