@@ -7,3 +7,5 @@ pub mod LevelAnswers
 pub mod LevelLists
 pub mod Latest
 pub mod OperationAnswers
+pub mod Ranking
+pub mod OperationSteps

@@ -110,7 +110,7 @@ module _ (o : Operation) (m : ℕ) (xs : List Act) where
           rw (done_is o m xs r l z.0, lost_is o m xs r l z.0, z.0.unfit) (here l ks z.0 (ih ks z.1) (not l.unfit && Due.is_done o m xs l) (Standing.lost o m xs l))
       go false ls ih z = ih ls z
 
-  queries_is : (ls : List KeptLevel) → AllZip (IsQuerySlot o xs) (kept_queries ls) (queries o) → list_all (is_queried m) ls ≡ queries_concluded o m xs
+  pub queries_is : (ls : List KeptLevel) → AllZip (IsQuerySlot o xs) (kept_queries ls) (queries o) → list_all (is_queried m) ls ≡ queries_concluded o m xs
   queries_is ls z = all_queried_is m ls ∙ zip_all (IsQuerySlot o xs) _ _ query_concluded_is (kept_queries ls) (queries o) z
 
   failure_among : (rs : List KeptLevel) (ls : List Rank) → AllZip (IsLevel o xs) rs ls → (q : Bool) → queries_concluded o m xs ≡ q →

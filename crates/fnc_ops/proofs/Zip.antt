@@ -1,7 +1,7 @@
 -- Tests and searches of two lists whose elements are related place by place.
 use Rattle.std.proofs.Common.{List, [], ◌∷◌, ◌++◌, Bool, true, false, ◌≡◌, refl, Some, cond, map}
 use Rattle.std.specs.Prelude.{find, filter}
-use Rattle.std.specs.List.{list_any, list_all, AllZip}
+use Rattle.std.specs.List.{list_any, list_all, AllZip, AllByRecursion}
 use Rattle.fnc_ops.specs.SlotFacts.{BothOr}
 
 pub zip_all : {A B : Type 0} (R : A → B → Type 0) (p : A → Bool) (q : B → Bool) → ((x : A) (y : B) → R x y → p x ≡ q y) →
@@ -59,3 +59,10 @@ zip_append R [] vs [] ws z y = y
 zip_append R [] vs (b ∷ ys) ws z y = absurd z
 zip_append R (a ∷ xs) vs [] ws z y = absurd z
 zip_append R (a ∷ xs) vs (b ∷ ys) ws z y = (z.0, zip_append R xs vs ys ws z.1 y)
+
+-- what each of the second list has by its relation
+pub zip_each : {A B : Type 0} (R : A → B → Type 0) (P : B → Type 0) → ((x : A) (y : B) → R x y → P y) → (xs : List A) (ys : List B) → AllZip R xs ys → AllByRecursion P ys
+zip_each R P h [] [] z = tt
+zip_each R P h [] (y ∷ ys) z = absurd z
+zip_each R P h (x ∷ xs) [] z = absurd z
+zip_each R P h (x ∷ xs) (y ∷ ys) z = (h x y z.0, zip_each R P h xs ys z.1)

@@ -8,8 +8,9 @@ use Rattle.fnc_ops.specs.declared.slot.SlotRecord.{SlotRecord}
 use Rattle.fnc_ops.specs.KeptLevel.{KeptLevel}
 use Rattle.fnc_ops.specs.SlotFacts.{IsSlot}
 
--- the slot's time and delay are such that no moment gets too great for its record
+-- the slot has some time, and its time and delay are such that no moment gets too great for its record
 pub record IsShort (o : Operation) (t : Task) : Type 0 where
+  pub begins : 0 < time t
   pub lasts : time t < 2 ^ 62
   pub waits : delay t.definition t.kind o.target o.coin < 2 ^ 62
 
