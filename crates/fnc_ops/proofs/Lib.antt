@@ -9,3 +9,4 @@ pub mod Latest
 pub mod OperationAnswers
 pub mod Ranking
 pub mod OperationSteps
+pub mod StandingSlots

@@ -1,7 +1,7 @@
 -- An operation's record stays what the acts say when one of its runs starts or ends, and when time passes.
 use Rattle.std.proofs.Common.{ℕ, List, [], ◌∷◌, Bool, true, false, ◌≡◌, ◌≤◌, ◌<◌, ◌^◌, refl, ap, ap₂, sym, ◌∙◌, subst, Option, Some, None, cond, not, ◌&&◌, ◌||◌, ◌==◌, arith, map}
 use Rattle.std.proofs.lemmas.Bool.Decides.{nat_tests}
-use Rattle.std.specs.Prelude.{option_map}
+use Rattle.std.specs.Prelude.{option_map, filter_map}
 use Rattle.std.specs.List.{list_all, AllZip, AllByRecursion, cons_option}
 use Rattle.fnc_journal.specs.declared.entry.Exit.{Exit}
 use Rattle.fnc_journal.specs.declared.entry.Phase.{Phase}
@@ -20,9 +20,9 @@ use Rattle.fnc_ops.specs.SlotRecords.{at_level, started, ended}
 use Rattle.fnc_ops.specs.LevelRecords.{is_queried, level_started, level_ended}
 use Rattle.fnc_ops.specs.LevelFacts.{IsLevelSlot, IsQuerySlot, IsLevel, AreFew}
 use Rattle.fnc_ops.specs.OperationRecords.{ranked_levels, ranked_if_queried, at_moment, operation_started, operation_ended}
-use Rattle.fnc_ops.specs.OperationFacts.{IsCandidate, IsUnranked, IsOperation, kept_queries, tried_levels}
-use Rattle.fnc_ops.proofs.Zip.{zip_map, zip_each}
-use Rattle.fnc_ops.proofs.LevelSteps.{level_slot-started, query_slot-started, query-started, level-started, level_slot-ended, query_slot-ended, query-ended, level-ended}
+use Rattle.fnc_ops.specs.OperationFacts.{IsCandidate, IsUnranked, IsOperation, kept_queries, tried_levels, AreDistinct}
+use Rattle.fnc_ops.proofs.Zip.{zip_map, zip_each, zip_map_each}
+use Rattle.fnc_ops.proofs.LevelSteps.{level_slot-started, query_slot-started, query-started, level-started, level_slot-ended, query_slot-ended, query-ended, level-ended, IsFree, ForSome}
 use Rattle.fnc_ops.proofs.OperationAnswers.{queries_is}
 use Rattle.fnc_ops.proofs.Ranking.{queries-ranked, queries-zip, ranks_by, ranks_known, ranks_unknown}
 
@@ -62,9 +62,9 @@ module _ (o : Operation) (m run : ℕ) (s : Slot) (xs : List Act) (few : AreFew 
   each-begun : (rs : List SlotRecord) → AllZip (IsQuerySlot o xs) rs (queries o) → AllByRecursion (Same o.over m (Act.Begun m run s ∷ xs) m xs) (queries o)
   each-begun rs z = zip_each (IsQuerySlot o xs) (Same o.over m (Act.Begun m run s ∷ xs) m xs) (λ a b h. same-begun b o.over m run s xs h.short.begins) rs (queries o) z
 
-  candidate-started : is_query_phase s.phase ≡ true → (r : KeptLevel) (c : QueriedDevice) → IsCandidate o xs r c → IsCandidate o (Act.Begun m run s ∷ xs) (level_started s m r) c
-  candidate-started e r c h = record {
-    act = h.act; query = query-started o m run s xs few early r.query c.query h.query; untried = h.untried; fit = h.fit;
+  candidate-started : is_query_phase s.phase ≡ true → (r : KeptLevel) (c : QueriedDevice) → ForSome (IsFree o m s xs) c.query → IsCandidate o xs r c → IsCandidate o (Act.Begun m run s ∷ xs) (level_started s m r) c
+  candidate-started e r c free h = record {
+    act = h.act; query = query-started o m run s xs few early r.query c.query free h.query; untried = h.untried; fit = h.fit;
     firsts = ap (map (started s m)) h.firsts ∙ rw other refl;
     is = λ k. subst (λ x. IsLevelSlot o (Act.Begun m run s ∷ xs) x (act_task false o.kind k 0 c.device)) (same k) (level_slot-started o m run s xs few early (at_level k h.act) (act_task false o.kind k 0 c.device) (h.is k));
     ons = ap (map (started s m)) h.ons
@@ -76,18 +76,27 @@ module _ (o : Operation) (m run : ℕ) (s : Slot) (xs : List Act) (few : AreFew 
       same : (k : ℕ) → started s m (at_level k h.act) ≡ at_level k h.act
       same k = let no : same_slot (at_level k h.act).slot s ≡ false = other_slot (at_level k h.act).slot s (phase_of_act o xs h.act c h.is) e in rw no refl
 
-  pub operation-started : (r : KeptOperation) → (r.ranked ≡ false → is_query_phase s.phase ≡ true) → IsOperation m xs r o → IsOperation m (Act.Begun m run s ∷ xs) (operation_started s m r) o
-  operation-started r query h = record {
-    req = h.req; kind = h.kind; target = h.target; begin = h.begin; over = h.over;
+  -- what each query has, each candidate's query has
+  each-query : (P : Task → Type 0) (cs : List QueriedDevice) → AllByRecursion P (filter_map (λ c. c.query) cs) → AllByRecursion (λ c. ForSome P c.query) cs
+  each-query P [] a = tt
+  each-query P (c ∷ cs) a = let k : ForSome P c.query × AllByRecursion P (filter_map (λ c. c.query) cs) = go c.query a in (k.0, each-query P cs k.1)
+    where
+      go : (x : Option Task) → AllByRecursion P (cons_option x (filter_map (λ c. c.query) cs)) → ForSome P x × AllByRecursion P (filter_map (λ c. c.query) cs)
+      go None a = (tt, a)
+      go (Some q) a = a
+
+  pub operation-started : (r : KeptOperation) → (r.ranked ≡ false → is_query_phase s.phase ≡ true) → AllByRecursion (IsFree o m s xs) (queries o) → IsOperation m xs r o → IsOperation m (Act.Begun m run s ∷ xs) (operation_started s m r) o
+  operation-started r query free h = record {
+    req = h.req; kind = h.kind; target = h.target; begin = h.begin; over = h.over; distinct = h.distinct;
     queries_are = subst (λ qs. AllZip (IsQuerySlot o (Act.Begun m run s ∷ xs)) qs (queries o)) (sym (queries-changed (level_started s m) (started s m) (λ l. refl) (λ l. refl) r.levels))
-      (zip_map _ _ (started s m) (query_slot-started o m run s xs few early) (kept_queries r.levels) (queries o) h.queries_are);
+      (zip_map_each _ _ (IsFree o m s xs) (started s m) (query_slot-started o m run s xs few early) (kept_queries r.levels) (queries o) free h.queries_are);
     ranks_are = subst (λ ls. AllZip (IsLevel o (Act.Begun m run s ∷ xs)) ls (ranks o m (Act.Begun m run s ∷ xs))) (sym (tried-changed (level_started s m) (started s m) (λ l. refl) (λ l. refl) r.levels))
       (subst (λ ks. AllZip (IsLevel o (Act.Begun m run s ∷ xs)) (map (level_started s m) (tried_levels r.levels)) ks) (sym (ranks-same o m (Act.Begun m run s ∷ xs) m xs (each-begun (kept_queries r.levels) h.queries_are)))
         (zip_map _ _ (level_started s m) (level-started o m run s xs few early) (tried_levels r.levels) (ranks o m xs) h.ranks_are));
     ranked_is = h.ranked_is ∙ ap (λ b. o.levelled || b) (sym (queries_concluded-same o m (Act.Begun m run s ∷ xs) m xs (each-begun (kept_queries r.levels) h.queries_are)));
     unranked = λ e. let u = h.unranked e in record {
       unlevelled = u.unlevelled; few = u.few; queried = (query e, u.queried);
-      candidates = zip_map _ _ (level_started s m) (candidate-started (query e)) r.levels o.candidates u.candidates
+      candidates = zip_map_each _ _ (λ c. ForSome (IsFree o m s xs) c.query) (level_started s m) (candidate-started (query e)) r.levels o.candidates (each-query (IsFree o m s xs) o.candidates free) u.candidates
     }
   }
 
@@ -107,9 +116,9 @@ rank_by m r a b e f = ap₂ (λ x y. cond (not x && y) (record r { ranked = true
 
 -- the record whose queries may be concluded now
 module _ (o : Operation) (m : ℕ) (xs : List Act) where
-  ranked-once : (r : KeptOperation) → r.req ≡ o.req → r.kind ≡ o.kind → r.target ≡ o.target → r.begin ≡ o.begin → r.over ≡ o.over → r.ranked ≡ false → IsUnranked o xs r.levels →
+  ranked-once : (r : KeptOperation) → AreDistinct (queries o) → r.req ≡ o.req → r.kind ≡ o.kind → r.target ≡ o.target → r.begin ≡ o.begin → r.over ≡ o.over → r.ranked ≡ false → IsUnranked o xs r.levels →
       IsOperation m xs (ranked_if_queried m r) o
-  ranked-once r req kind target begin over e u =
+  ranked-once r distinct req kind target begin over e u =
       subst (λ k. IsOperation m xs k o) (sym (rank_by m r false (queries_concluded o m xs) e (queries_is o m xs r.levels queried))) (go (queries_concluded o m xs) refl)
     where
       queried : AllZip (IsQuerySlot o xs) (kept_queries r.levels) (queries o)
@@ -117,14 +126,14 @@ module _ (o : Operation) (m : ℕ) (xs : List Act) where
 
       go : (q : Bool) → queries_concluded o m xs ≡ q → IsOperation m xs (cond q (record r { ranked = true; levels = ranked_levels 1 r.levels }) r) o
       go true f = record {
-        req = req; kind = kind; target = target; begin = begin; over = over;
+        req = req; kind = kind; target = target; begin = begin; over = over; distinct = distinct;
         queries_are = subst (λ qs. AllZip (IsQuerySlot o xs) qs (queries o)) (sym (queries-ranked 1 r.levels)) queried;
         ranks_are = ranks_known o m xs r.levels u f;
         ranked_is = sym (ap₂ ◌||◌ u.unlevelled f);
         unranked = λ k. cc
       }
       go false f = record {
-        req = req; kind = kind; target = target; begin = begin; over = over; queries_are = queried;
+        req = req; kind = kind; target = target; begin = begin; over = over; distinct = distinct; queries_are = queried;
         ranks_are = ranks_unknown o m xs r.levels u f;
         ranked_is = e ∙ sym (ap₂ ◌||◌ u.unlevelled f);
         unranked = λ k. u
@@ -171,12 +180,12 @@ operation-later o m n xs le r h = go r.ranked refl
     go true e =
         let k = ranked-stays o m n xs xs (λ f. later-all o xs m n le (queries o) f) (λ f. refl) (sym h.ranked_is ∙ e) in
         subst (λ w. IsOperation n xs w o) (sym (rank_by n (record r { moment = n }) true (list_all (is_queried n) r.levels) e refl)) (record {
-          req = h.req; kind = h.kind; target = h.target; begin = h.begin; over = h.over; queries_are = h.queries_are;
+          req = h.req; kind = h.kind; target = h.target; begin = h.begin; over = h.over; distinct = h.distinct; queries_are = h.queries_are;
           ranks_are = subst (AllZip (IsLevel o xs) (tried_levels r.levels)) (sym k.0) h.ranks_are;
           ranked_is = e ∙ sym k.1;
           unranked = h.unranked
         })
-    go false e = ranked-once o n xs (record r { moment = n }) h.req h.kind h.target h.begin h.over e (h.unranked e)
+    go false e = ranked-once o n xs (record r { moment = n }) h.distinct h.req h.kind h.target h.begin h.over e (h.unranked e)
 
 -- an exit that comes late leaves its slot as it was
 same-late : (t : Task) (over m n : ℕ) (s : Slot) (exit : Exit) (listed : Bool) (xs : List Act) → same_slot t.slot s ≡ true → is_below n (limit t over xs) ≡ false →
@@ -238,7 +247,7 @@ module _ (o : Operation) (m : ℕ) (s : Slot) (exit : Exit) (listed : Bool) (xs 
               (λ f. queries_concluded-same o m (Act.Ended m s exit listed ∷ xs) m xs (each-ended (queries o) late f) ∙ f)
               (λ f. capable-same o m (Act.Ended m s exit listed ∷ xs) m xs (each-ended (queries o) late f)) (sym h.ranked_is ∙ e) in
           subst (λ w. IsOperation m (Act.Ended m s exit listed ∷ xs) w o) (sym (rank_by m (after r) true (list_all (is_queried m) (after r).levels) e refl)) (record {
-            req = h.req; kind = h.kind; target = h.target; begin = h.begin; over = h.over; queries_are = queried;
+            req = h.req; kind = h.kind; target = h.target; begin = h.begin; over = h.over; distinct = h.distinct; queries_are = queried;
             ranks_are = subst (λ ls. AllZip (IsLevel o (Act.Ended m s exit listed ∷ xs)) ls (ranks o m (Act.Ended m s exit listed ∷ xs)))
               (sym (tried-changed (level_ended s exit listed o.over m) (ended s exit listed o.over m) (λ l. refl) (λ l. refl) r.levels))
               (subst (AllZip (IsLevel o (Act.Ended m s exit listed ∷ xs)) (map (level_ended s exit listed o.over m) (tried_levels r.levels))) (sym k.0)
@@ -247,7 +256,7 @@ module _ (o : Operation) (m : ℕ) (s : Slot) (exit : Exit) (listed : Bool) (xs 
             unranked = λ f. let wrong : true ≡ false = sym e ∙ f in cc
           })
       go false e = let u = h.unranked e in
-          ranked-once o m (Act.Ended m s exit listed ∷ xs) (after r) h.req h.kind h.target h.begin h.over e (record {
+          ranked-once o m (Act.Ended m s exit listed ∷ xs) (after r) h.distinct h.req h.kind h.target h.begin h.over e (record {
             unlevelled = u.unlevelled; few = u.few; queried = (query e, u.queried);
             candidates = zip_map _ _ (level_ended s exit listed o.over m) (candidate-ended (query e)) r.levels o.candidates u.candidates
           })

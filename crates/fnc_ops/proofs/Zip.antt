@@ -66,3 +66,11 @@ zip_each R P h [] [] z = tt
 zip_each R P h [] (y ∷ ys) z = absurd z
 zip_each R P h (x ∷ xs) [] z = absurd z
 zip_each R P h (x ∷ xs) (y ∷ ys) z = (h x y z.0, zip_each R P h xs ys z.1)
+
+-- each of the first list changed, where each of the second has something besides
+pub zip_map_each : {A B : Type 0} (R S : A → B → Type 0) (P : B → Type 0) (f : A → A) → ((x : A) (y : B) → P y → R x y → S (f x) y) →
+    (xs : List A) (ys : List B) → AllByRecursion P ys → AllZip R xs ys → AllZip S (map f xs) ys
+zip_map_each R S P f h [] [] p z = tt
+zip_map_each R S P f h [] (y ∷ ys) p z = z
+zip_map_each R S P f h (x ∷ xs) [] p z = z
+zip_map_each R S P f h (x ∷ xs) (y ∷ ys) p z = (h x y p.0 z.0, zip_map_each R S P f h xs ys p.1 z.1)

@@ -12,6 +12,7 @@ use Rattle.fnc_ops.specs.KeptOperation.{KeptOperation}
 use Rattle.fnc_ops.specs.SlotRecords.{at_level}
 use Rattle.fnc_ops.specs.LevelFacts.{IsLevelSlot, IsQuerySlot, IsQuery, IsLevel}
 use Rattle.fnc_ops.specs.SlotFacts.{BothOr}
+use Rattle.fnc_journal.specs.Same.{same_slot}
 
 -- the records of the queries
 abbrev pub kept_queries : List KeptLevel → List SlotRecord
@@ -47,6 +48,11 @@ pub record IsUnranked (o : Operation) (xs : List Act) (ls : List KeptLevel) : Ty
   pub queried : AreQueries xs
   pub candidates : AllZip (IsCandidate o xs) ls o.candidates
 
+-- no two of these slots are the same
+abbrev pub AreDistinct : List Task → Type 0
+AreDistinct [] = Unit {0}
+AreDistinct (t ∷ ts) = AllByRecursion (λ u. same_slot u.slot t.slot ≡ false) ts × AreDistinct ts
+
 -- the record is that of the operation at a moment, after these acts of it
 pub record IsOperation (m : ℕ) (xs : List Act) (r : KeptOperation) (o : Operation) : Type 0 where
   pub req : r.req ≡ o.req
@@ -54,6 +60,7 @@ pub record IsOperation (m : ℕ) (xs : List Act) (r : KeptOperation) (o : Operat
   pub target : r.target ≡ o.target
   pub begin : r.begin ≡ o.begin
   pub over : r.over ≡ o.over
+  pub distinct : AreDistinct (queries o)
   pub queries_are : AllZip (IsQuerySlot o xs) (kept_queries r.levels) (queries o)
   pub ranks_are : AllZip (IsLevel o xs) (tried_levels r.levels) (ranks o m xs)
   pub ranked_is : r.ranked ≡ (o.levelled || queries_concluded o m xs)
