@@ -10,3 +10,5 @@ pub mod OperationAnswers
 pub mod Ranking
 pub mod OperationSteps
 pub mod StandingSlots
+pub mod StandsAnswers
+pub mod StandsSteps

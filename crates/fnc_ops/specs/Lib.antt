@@ -6,3 +6,5 @@ pub mod LevelFacts
 pub mod KeptOperation
 pub mod OperationRecords
 pub mod OperationFacts
+pub mod OpsRecords
+pub mod Stands

@@ -1,5 +1,5 @@
 -- What the record of an operation says.
-use Rattle.std.specs.Prelude.{ℕ, List, [], ◌∷◌, Bool, ◌&&◌, not, nat_le, if◌then◌else◌, find, Option, Some, None, option_map, option_and_then, true, map, bytes_eq}
+use Rattle.std.specs.Prelude.{ℕ, List, [], ◌∷◌, Bool, ◌&&◌, not, nat_le, if◌then◌else◌, find, Option, Some, None, option_map, option_and_then, true, map, bytes_eq, ◌==◌}
 use Rattle.std.specs.List.{list_any, list_all}
 use Rattle.std.specs.Option.{option_or}
 use Rattle.fnc_journal.specs.declared.entry.Answer.{Answer}
@@ -89,6 +89,18 @@ at_moment m o = ranked_if_queried m (record o { moment = m })
 -- after a start of one of the operation's runs
 abbrev pub operation_started : Slot → ℕ → KeptOperation → KeptOperation
 operation_started s m o = record o { levels = map (level_started s m) o.levels }
+
+-- after a start of the slot at which it stands
+abbrev pub started_at : ℕ → Option SlotRecord → KeptOperation → KeptOperation
+started_at m None o = o
+started_at m (Some s) o = operation_started s.slot m o
+
+abbrev pub start_standing : ℕ → KeptOperation → KeptOperation
+start_standing m o = started_at m (standing_slot m o) o
+
+-- one operation's record changed, and the others as they were
+abbrev pub only : ℕ → (KeptOperation → KeptOperation) → KeptOperation → KeptOperation
+only req f o = if o.req == req then f o else o
 
 -- after an exit of one
 abbrev pub operation_ended : Slot → Exit → Bool → ℕ → KeptOperation → KeptOperation

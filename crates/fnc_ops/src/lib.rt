@@ -4,6 +4,8 @@
 
 mod level;
 mod operation;
+mod ops;
 mod slot;
 
 pub use operation::Standing;
+pub use ops::{Due, Ops};

@@ -1,6 +1,6 @@
 // What is kept of an operation that is open.
 
-ghost use Rattle.std.specs.Prelude.{◌≡◌, List, find, map, not};
+ghost use Rattle.std.specs.Prelude.{◌≡◌, List, find, map, not, option_map};
 ghost use Rattle.std.specs.List.{list_all, list_any};
 ghost use Rattle.std.specs.Option.{option_copied};
 ghost use Rattle.fnc_journal.specs.Device as Device;
@@ -208,6 +208,13 @@ impl OperationRecord {
         }
     }
 
+    /// Where the operation stands at the moment at which the record speaks.
+    pub fn standing_now(&self) -> Option<Standing>
+        ensures { result ≡ OperationRecords.standing self.now.moment self.now }
+    {
+        self.kept_standing(self.moment)
+    }
+
     /// Where the operation stands at a moment. None where it stands nowhere.
     pub fn standing(&self, moment: u64) -> Option<Standing>
         ensures {
@@ -244,7 +251,7 @@ impl OperationRecord {
         }
     }
 
-    fn kept_due(&self, moment: u64) -> Option<Answer>
+    pub fn kept_due(&self, moment: u64) -> Option<Answer>
         ensures { result ≡ OperationRecords.due moment self.now }
     {
         if self.confirmed && cuts_power(self.kind) {
@@ -278,6 +285,33 @@ impl OperationRecord {
         ensures { self.new ≡ OperationRecords.operation_started slot moment self.old }
     {
         see_start(&mut self.levels, slot, moment);
+    }
+
+    /// A run was started of the slot at which the operation stands.
+    fn start_standing(&mut self, moment: u64)
+        ensures { self.new ≡ OperationRecords.start_standing moment self.old }
+    {
+        if let Some(slot) = self.slot_now(moment) {
+            self.see_start(slot, moment);
+        }
+    }
+
+    fn slot_now(&self, moment: u64) -> Option<Slot>
+        ensures { result ≡ option_map (λ s. s.slot) (OperationRecords.standing_slot moment self.now) }
+    {
+        match self.standing_slot(moment) {
+            Some(s) => Some(s.slot),
+            None => None,
+        }
+    }
+
+    /// The same, where this is the operation.
+    pub fn start_of(&mut self, operation: Req, moment: u64)
+        ensures { self.new ≡ OperationRecords.only operation.0 (OperationRecords.start_standing moment) self.old }
+    {
+        if self.req.0 == operation.0 {
+            self.start_standing(moment);
+        }
     }
 
     /// A run of the operation has ended.

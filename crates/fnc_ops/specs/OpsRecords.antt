@@ -1,0 +1,36 @@
+-- What the records of all operations say.
+use Rattle.std.specs.Prelude.{ℕ, List, [], ◌∷◌, Bool, ◌==◌, find, Option, Some, None, option_and_then}
+use Rattle.std.specs.Option.{option_or}
+use Rattle.fnc_journal.specs.declared.entry.Answer.{Answer}
+use Rattle.fnc_ops.specs.declared.operation.Standing.{Standing}
+use Rattle.fnc_ops.specs.declared.ops.Due.{Due}
+use Rattle.fnc_ops.specs.KeptOperation.{KeptOperation}
+use Rattle.fnc_ops.specs.OperationRecords as OperationRecords
+
+-- whether it is the operation of a number
+abbrev pub is_of : ℕ → KeptOperation → Bool
+is_of req o = o.req == req
+
+-- where the operation of a number stands, at the moment at which its record speaks
+abbrev pub standing : ℕ → List KeptOperation → Option Standing
+standing req os = option_and_then (λ o. OperationRecords.standing o.moment o) (find (is_of req) os)
+
+-- the number of an operation with the answer that is due to it
+pub record DueTo : Type 0 where
+  pub req : ℕ
+  pub answer : Answer
+
+-- with an answer that may be missing
+abbrev pub due_to : ℕ → Option Answer → Option DueTo
+due_to req None = None
+due_to req (Some answer) = Some (record { req = req; answer = answer })
+
+-- the first of them to which one is due
+abbrev pub first_due : ℕ → List KeptOperation → Option DueTo
+first_due m [] = None
+first_due m (o ∷ os) = option_or (due_to o.req (OperationRecords.due m o)) (first_due m os)
+
+-- what an answer that is due says
+abbrev pub shown : Option Due → Option DueTo
+shown None = None
+shown (Some d) = Some (record { req = d.req.0; answer = d.answer })

@@ -1,0 +1,158 @@
+// The records of all operations that are open.
+
+ghost use Rattle.std.specs.Prelude.{◌≡◌, ◌∷◌, [], ◌<◌, ◌≤◌, ◌+◌, ◌^◌, ◌==◌, ℕ, List, length, map, find, option_and_then};
+ghost use Rattle.std.specs.Option.{option_copied};
+ghost use Rattle.fnc_journal.specs.History.{History};
+ghost use Rattle.fnc_journal.specs.Slots.{Task};
+ghost use Rattle.fnc_journal.specs.Operations as Operations;
+ghost use Rattle.fnc_ops.specs.OperationRecords as OperationRecords;
+ghost use Rattle.fnc_ops.specs.OpsRecords as OpsRecords;
+ghost use Rattle.fnc_ops.specs.Stands.{StandsFor, AreAt, StandsAt, IsStandingOf, IsFirstDue, start_entry, confirm_entry};
+
+use crate::operation::{OperationRecord, Standing};
+use fnc_journal::{Answer, Journal, Kind, Reg, Req, Run};
+use std::alloc::Global;
+use std::marker::Model;
+
+/// An answer that is due, and the operation to which it is.
+#[derive(Clone, Copy, Debug, PartialEq, Eq)]
+pub struct Due {
+    pub req: Req,
+    pub answer: Answer,
+}
+
+/// The records of the operations that are open, in rising order of their numbers. Contracts see what each of
+/// them keeps.
+#[derive(Debug, Drop)]
+pub struct Ops {
+    records: Vec<OperationRecord>,
+}
+
+impl Model for Ops {
+    ghost use Rattle.std.specs.Prelude.{List};
+    ghost use Rattle.fnc_ops.specs.KeptOperation.{KeptOperation};
+
+    ghost Value = { List KeptOperation };
+
+    ghost view = { λ o. o.records.items };
+}
+
+fn find_record(records: &[OperationRecord], operation: Req) -> Option<&OperationRecord>
+    ensures { option_copied result ≡ find (OpsRecords.is_of operation.0) records.now }
+{
+    records.iter().find(|r| r.req.0 == operation.0)
+}
+
+fn standing_of(records: &[OperationRecord], operation: Req) -> Option<Standing>
+    ensures { result ≡ OpsRecords.standing operation.0 records.now }
+{
+    match find_record(records, operation) {
+        Some(record) => record.standing_now(),
+        None => None,
+    }
+}
+
+fn first_due(records: &[OperationRecord], moment: u64) -> Option<Due>
+    ensures { OpsRecords.shown result ≡ OpsRecords.first_due moment records.now }
+{
+    for record in records {
+        if let Some(answer) = record.kept_due(moment) {
+            return Some(Due {
+                req: record.req,
+                answer,
+            });
+        }
+    }
+    None
+}
+
+fn see_start(records: &mut [OperationRecord], operation: Req, moment: u64)
+    ensures { records.new ≡ map (OperationRecords.only operation.0 (OperationRecords.start_standing moment)) records.old }
+{
+    for record in records.iter_mut() {
+        record.start_of(operation, moment);
+    }
+}
+
+fn see_confirm(records: &mut [OperationRecord], target: &str)
+    ensures { records.new ≡ map (OperationRecords.operation_confirmed target.now) records.old }
+{
+    for record in records.iter_mut() {
+        record.see_confirm(target);
+    }
+}
+
+impl Ops {
+    /// No operation.
+    pub fn new(alloc: Global) -> Ops
+        ensures { result ≡ [] }
+    {
+        Ops {
+            records: Vec::new(alloc),
+        }
+    }
+
+    fn kept_standing(&self, operation: Req) -> Option<Standing>
+        ensures { result ≡ OpsRecords.standing operation.0 self.now }
+    {
+        standing_of(&self.records, operation)
+    }
+
+    /// Where an operation stands, at the moment at which its record speaks. None where it is not open or
+    /// stands nowhere.
+    pub fn standing(&self, operation: Req) -> Option<Standing>
+        ensures { (h : History) → StandsFor self.now h → IsStandingOf h operation.0 self.now result }
+    {
+        self.kept_standing(operation)
+    }
+
+    fn kept_due(&self, moment: u64) -> Option<Due>
+        ensures { OpsRecords.shown result ≡ OpsRecords.first_due moment self.now }
+    {
+        first_due(&self.records, moment)
+    }
+
+    /// The least operation to which an answer is due, with that answer. None where none is.
+    pub fn due(&self, moment: u64) -> Option<Due>
+        requires at { AreAt moment self.now }
+        ensures { (h : History) → StandsFor self.now h → IsFirstDue h moment result (Operations.first_due h moment) }
+    {
+        self.kept_due(moment)
+    }
+
+    fn kept_started(&mut self, operation: Req, moment: u64)
+        ensures { self.new ≡ map (OperationRecords.only operation.0 (OperationRecords.start_standing moment)) self.old }
+    {
+        see_start(&mut self.records, operation, moment);
+    }
+
+    /// A run of an operation was started, of the slot at which that stands.
+    pub fn started(&mut self, journal: &Journal, operation: Req, run: Run, moment: u64)
+        requires stands { StandsFor self.old journal.now.history }
+        requires at { AreAt moment self.old }
+        requires early { moment ≤ 10 ^ 15 }
+        requires few { length journal.now.history + 1 < 2 ^ 32 }
+        ensures {
+            (t : Task) (reg : Reg) (kind : Kind) (attempt : ℕ) → StandsAt journal.now.history moment operation.0 t →
+            StandsFor self.new (start_entry moment run operation t.slot reg kind attempt ∷ journal.now.history)
+        }
+    {
+        self.kept_started(operation, moment);
+    }
+
+    fn kept_confirmed(&mut self, target: &str)
+        ensures { self.new ≡ map (OperationRecords.operation_confirmed target.now) self.old }
+    {
+        see_confirm(&mut self.records, target);
+    }
+
+    /// An operator said that a target is down: of its operations that are open this is known from now on.
+    pub fn confirm(&mut self, journal: &Journal, target: &str)
+        requires stands { StandsFor self.old journal.now.history }
+        ensures {
+            (moment : ℕ) (client : List ℕ) → StandsFor self.new (confirm_entry moment client target.now ∷ journal.now.history)
+        }
+    {
+        self.kept_confirmed(target);
+    }
+}
