@@ -80,9 +80,9 @@ module _ (o : Operation) (m : ℕ) (xs : List Act) where
       ∙ ap (λ k. latest o.begin m k (kept_slots (tried_levels r.levels))) (latest_queries_is o.begin m o.begin r.levels)
       ∙ sym (latest-append o.begin m o.begin (kept_queries r.levels) (kept_slots (tried_levels r.levels)))
       ∙ latest_is o.begin (kept_queries r.levels ++ kept_slots (tried_levels r.levels)) (slots o m xs)
-          (zip_append (IsSlot o xs) _ _ (queries o) (slots_of (ranks o m xs)) (zip_weaken (IsQuerySlot o xs) (IsSlot o xs) (λ a b k. k.is) (kept_queries r.levels) (queries o) h.queries_are)
-            (level_slots (tried_levels r.levels) (ranks o m xs) h.ranks_are))
-          (omega arith)
+      (zip_append (IsSlot o xs) _ _ (queries o) (slots_of (ranks o m xs)) (zip_weaken (IsQuerySlot o xs) (IsSlot o xs) (λ a b k. k.is) (kept_queries r.levels) (queries o) h.queries_are)
+      (level_slots (tried_levels r.levels) (ranks o m xs) h.ranks_are))
+      (omega arith)
       ∙ (let least : o.begin ≤ greatest_concluded o m xs (slots o m xs) = greatest-least (slots o m xs) in omega (arith, least))
 
   pub since_is : (r : KeptOperation) → IsOperation m xs r o → since m r ≡ Standing.since o m xs

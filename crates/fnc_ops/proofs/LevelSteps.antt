@@ -72,9 +72,10 @@ module _ (o : Operation) (m run : ℕ) (s : Slot) (xs : List Act) (few : AreFew 
 
   pub level-started : (r : KeptLevel) (l : Rank) → IsLevel o xs r l → IsLevel o (Act.Begun m run s ∷ xs) (level_started s m r) l
   level-started r l h = record {
-    index = h.index; unfit = h.unfit;
+    index = h.index;
+    unfit = h.unfit;
     firsts = zip_map _ _ (started s m) level_slot-started r.firsts l.firsts h.firsts;
-    ons = zip_map _ _ (started s m) level_slot-started r.ons l.ons h.ons
+    ons = zip_map _ _ (started s m) level_slot-started r.ons l.ons h.ons;
   }
 
 -- an exit
@@ -117,7 +118,8 @@ module _ (o : Operation) (m : ℕ) (s : Slot) (exit : Exit) (listed : Bool) (xs 
 
   pub level-ended : (r : KeptLevel) (l : Rank) → IsLevel o xs r l → IsLevel o (Act.Ended m s exit listed ∷ xs) (level_ended s exit listed o.over m r) l
   level-ended r l h = record {
-    index = h.index; unfit = h.unfit;
+    index = h.index;
+    unfit = h.unfit;
     firsts = zip_map _ _ (ended s exit listed o.over m) level_slot-ended r.firsts l.firsts h.firsts;
-    ons = zip_map _ _ (ended s exit listed o.over m) level_slot-ended r.ons l.ons h.ons
+    ons = zip_map _ _ (ended s exit listed o.over m) level_slot-ended r.ons l.ons h.ons;
   }

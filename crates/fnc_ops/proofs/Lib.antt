@@ -12,3 +12,5 @@ pub mod OperationSteps
 pub mod StandingSlots
 pub mod StandsAnswers
 pub mod StandsSteps
+pub mod StandsExits
+pub mod StandsReplies

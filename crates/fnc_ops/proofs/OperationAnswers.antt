@@ -59,7 +59,7 @@ module _ (o : Operation) (m : ℕ) (xs : List Act) where
       go : (b : Bool) →
           BothOr (IsShortSlot o xs) (option_and_then (standing_in m) (find (λ l. not (is_lost m l)) rs)) (option_and_then (Standing.standing_in o m xs) (Standing.first_kept o m xs ls)) →
           BothOr (IsShortSlot o xs) (option_and_then (standing_in m) (cond b (Some r) (find (λ l. not (is_lost m l)) rs)))
-              (option_and_then (Standing.standing_in o m xs) (cond b (Some l) (Standing.first_kept o m xs ls)))
+          (option_and_then (Standing.standing_in o m xs) (cond b (Some l) (Standing.first_kept o m xs ls)))
       go true e = both_weaken (IsLevelSlot o xs) (IsShortSlot o xs) (λ a b h. record { is = h.is; short = h.short }) _ _ (standing_in_is o m xs r l z.0)
       go false e = e
 
@@ -68,14 +68,16 @@ module _ (o : Operation) (m : ℕ) (xs : List Act) where
   standing_slot_is r h =
       both_or o m xs (IsShortSlot o xs) _ _ _ _ (first_query_found r.levels h.queries_are)
       (subst (λ x. BothOr (IsShortSlot o xs) (option_and_then (standing_in m) x) (option_and_then (Standing.standing_in o m xs) (Standing.first_kept o m xs (ranks o m xs))))
-        (sym (first_kept_is m r.levels)) (in_first_kept (tried_levels r.levels) (ranks o m xs) h.ranks_are))
+      (sym (first_kept_is m r.levels)) (in_first_kept (tried_levels r.levels) (ranks o m xs) h.ranks_are))
 
   standing_at_is : (r : KeptOperation) → IsOperation m xs r o → (s : SlotRecord) (t : Task) → IsShortSlot o xs s t → IsStandingAt o m xs (standing_at (OperationRecords.since m r) r.over s) t
   standing_at_is r h s t k = record {
-    slot = k.is.slot; reg = k.is.reg; kind = k.is.kind;
+    slot = k.is.slot;
+    reg = k.is.reg;
+    kind = k.is.kind;
     attempt = λ few. attempt_is o xs s t k.is few;
     ready = λ early. rw (since_is o m xs r h) (ready_is o m xs s t k.is (let waits : delay t.definition t.kind o.target o.coin < 2 ^ 62 = k.short.waits in omega (arith, early, waits)));
-    limit = rw h.over (limit_is o m xs s t k.is)
+    limit = rw h.over (limit_is o m xs s t k.is);
   }
 
   pub standing_is : (r : KeptOperation) → IsOperation m xs r o → IsStanding o m xs (OperationRecords.standing m r) (Standing.standing o m xs)

@@ -64,10 +64,13 @@ module _ (o : Operation) (m run : ℕ) (s : Slot) (xs : List Act) (few : AreFew 
 
   candidate-started : is_query_phase s.phase ≡ true → (r : KeptLevel) (c : QueriedDevice) → ForSome (IsFree o m s xs) c.query → IsCandidate o xs r c → IsCandidate o (Act.Begun m run s ∷ xs) (level_started s m r) c
   candidate-started e r c free h = record {
-    act = h.act; query = query-started o m run s xs few early r.query c.query free h.query; untried = h.untried; fit = h.fit;
+    act = h.act;
+    query = query-started o m run s xs few early r.query c.query free h.query;
+    untried = h.untried;
+    fit = h.fit;
     firsts = ap (map (started s m)) h.firsts ∙ rw other refl;
     is = λ k. subst (λ x. IsLevelSlot o (Act.Begun m run s ∷ xs) x (act_task false o.kind k 0 c.device)) (same k) (level_slot-started o m run s xs few early (at_level k h.act) (act_task false o.kind k 0 c.device) (h.is k));
-    ons = ap (map (started s m)) h.ons
+    ons = ap (map (started s m)) h.ons;
   }
     where
       other : same_slot h.act.slot s ≡ false
@@ -87,17 +90,24 @@ module _ (o : Operation) (m run : ℕ) (s : Slot) (xs : List Act) (few : AreFew 
 
   pub operation-started : (r : KeptOperation) → (r.ranked ≡ false → is_query_phase s.phase ≡ true) → AllByRecursion (IsFree o m s xs) (queries o) → IsOperation m xs r o → IsOperation m (Act.Begun m run s ∷ xs) (operation_started s m r) o
   operation-started r query free h = record {
-    req = h.req; kind = h.kind; target = h.target; begin = h.begin; over = h.over; distinct = h.distinct;
+    req = h.req;
+    kind = h.kind;
+    target = h.target;
+    begin = h.begin;
+    over = h.over;
+    distinct = h.distinct;
     queries_are = subst (λ qs. AllZip (IsQuerySlot o (Act.Begun m run s ∷ xs)) qs (queries o)) (sym (queries-changed (level_started s m) (started s m) (λ l. refl) (λ l. refl) r.levels))
-      (zip_map_each _ _ (IsFree o m s xs) (started s m) (query_slot-started o m run s xs few early) (kept_queries r.levels) (queries o) free h.queries_are);
+        (zip_map_each _ _ (IsFree o m s xs) (started s m) (query_slot-started o m run s xs few early) (kept_queries r.levels) (queries o) free h.queries_are);
     ranks_are = subst (λ ls. AllZip (IsLevel o (Act.Begun m run s ∷ xs)) ls (ranks o m (Act.Begun m run s ∷ xs))) (sym (tried-changed (level_started s m) (started s m) (λ l. refl) (λ l. refl) r.levels))
-      (subst (λ ks. AllZip (IsLevel o (Act.Begun m run s ∷ xs)) (map (level_started s m) (tried_levels r.levels)) ks) (sym (ranks-same o m (Act.Begun m run s ∷ xs) m xs (each-begun (kept_queries r.levels) h.queries_are)))
+        (subst (λ ks. AllZip (IsLevel o (Act.Begun m run s ∷ xs)) (map (level_started s m) (tried_levels r.levels)) ks) (sym (ranks-same o m (Act.Begun m run s ∷ xs) m xs (each-begun (kept_queries r.levels) h.queries_are)))
         (zip_map _ _ (level_started s m) (level-started o m run s xs few early) (tried_levels r.levels) (ranks o m xs) h.ranks_are));
     ranked_is = h.ranked_is ∙ ap (λ b. o.levelled || b) (sym (queries_concluded-same o m (Act.Begun m run s ∷ xs) m xs (each-begun (kept_queries r.levels) h.queries_are)));
     unranked = λ e. let u = h.unranked e in record {
-      unlevelled = u.unlevelled; few = u.few; queried = (query e, u.queried);
-      candidates = zip_map_each _ _ (λ c. ForSome (IsFree o m s xs) c.query) (level_started s m) (candidate-started (query e)) r.levels o.candidates (each-query (IsFree o m s xs) o.candidates free) u.candidates
-    }
+      unlevelled = u.unlevelled;
+      few = u.few;
+      queried = (query e, u.queried);
+      candidates = zip_map_each _ _ (λ c. ForSome (IsFree o m s xs) c.query) (level_started s m) (candidate-started (query e)) r.levels o.candidates (each-query (IsFree o m s xs) o.candidates free) u.candidates;
+    };
   }
 
 -- what is known once the queries are concluded
@@ -126,17 +136,28 @@ module _ (o : Operation) (m : ℕ) (xs : List Act) where
 
       go : (q : Bool) → queries_concluded o m xs ≡ q → IsOperation m xs (cond q (record r { ranked = true; levels = ranked_levels 1 r.levels }) r) o
       go true f = record {
-        req = req; kind = kind; target = target; begin = begin; over = over; distinct = distinct;
+        req = req;
+        kind = kind;
+        target = target;
+        begin = begin;
+        over = over;
+        distinct = distinct;
         queries_are = subst (λ qs. AllZip (IsQuerySlot o xs) qs (queries o)) (sym (queries-ranked 1 r.levels)) queried;
         ranks_are = ranks_known o m xs r.levels u f;
         ranked_is = sym (ap₂ ◌||◌ u.unlevelled f);
-        unranked = λ k. cc
+        unranked = λ k. cc;
       }
       go false f = record {
-        req = req; kind = kind; target = target; begin = begin; over = over; distinct = distinct; queries_are = queried;
+        req = req;
+        kind = kind;
+        target = target;
+        begin = begin;
+        over = over;
+        distinct = distinct;
+        queries_are = queried;
         ranks_are = ranks_unknown o m xs r.levels u f;
         ranked_is = e ∙ sym (ap₂ ◌||◌ u.unlevelled f);
-        unranked = λ k. u
+        unranked = λ k. u;
       }
 
 -- time passes
@@ -180,10 +201,16 @@ operation-later o m n xs le r h = go r.ranked refl
     go true e =
         let k = ranked-stays o m n xs xs (λ f. later-all o xs m n le (queries o) f) (λ f. refl) (sym h.ranked_is ∙ e) in
         subst (λ w. IsOperation n xs w o) (sym (rank_by n (record r { moment = n }) true (list_all (is_queried n) r.levels) e refl)) (record {
-          req = h.req; kind = h.kind; target = h.target; begin = h.begin; over = h.over; distinct = h.distinct; queries_are = h.queries_are;
+          req = h.req;
+          kind = h.kind;
+          target = h.target;
+          begin = h.begin;
+          over = h.over;
+          distinct = h.distinct;
+          queries_are = h.queries_are;
           ranks_are = subst (AllZip (IsLevel o xs) (tried_levels r.levels)) (sym k.0) h.ranks_are;
           ranked_is = e ∙ sym k.1;
-          unranked = h.unranked
+          unranked = h.unranked;
         })
     go false e = ranked-once o n xs (record r { moment = n }) h.distinct h.req h.kind h.target h.begin h.over e (h.unranked e)
 
@@ -217,10 +244,13 @@ module _ (o : Operation) (m : ℕ) (s : Slot) (exit : Exit) (listed : Bool) (xs 
 
   candidate-ended : is_query_phase s.phase ≡ true → (r : KeptLevel) (c : QueriedDevice) → IsCandidate o xs r c → IsCandidate o (Act.Ended m s exit listed ∷ xs) (level_ended s exit listed o.over m r) c
   candidate-ended e r c h = record {
-    act = h.act; query = query-ended o m s exit listed xs few r.query c.query h.query; untried = h.untried; fit = h.fit;
+    act = h.act;
+    query = query-ended o m s exit listed xs few r.query c.query h.query;
+    untried = h.untried;
+    fit = h.fit;
     firsts = ap (map (ended s exit listed o.over m)) h.firsts ∙ rw other refl;
     is = λ k. subst (λ x. IsLevelSlot o (Act.Ended m s exit listed ∷ xs) x (act_task false o.kind k 0 c.device)) (same k) (level_slot-ended o m s exit listed xs few (at_level k h.act) (act_task false o.kind k 0 c.device) (h.is k));
-    ons = ap (map (ended s exit listed o.over m)) h.ons
+    ons = ap (map (ended s exit listed o.over m)) h.ons;
   }
     where
       other : same_slot h.act.slot s ≡ false
@@ -244,21 +274,29 @@ module _ (o : Operation) (m : ℕ) (s : Slot) (exit : Exit) (listed : Bool) (xs 
       go : (b : Bool) → r.ranked ≡ b → IsOperation m (Act.Ended m s exit listed ∷ xs) (ranked_if_queried m (after r)) o
       go true e =
           let k = ranked-stays o m m xs (Act.Ended m s exit listed ∷ xs)
-              (λ f. queries_concluded-same o m (Act.Ended m s exit listed ∷ xs) m xs (each-ended (queries o) late f) ∙ f)
-              (λ f. capable-same o m (Act.Ended m s exit listed ∷ xs) m xs (each-ended (queries o) late f)) (sym h.ranked_is ∙ e) in
+          (λ f. queries_concluded-same o m (Act.Ended m s exit listed ∷ xs) m xs (each-ended (queries o) late f) ∙ f)
+          (λ f. capable-same o m (Act.Ended m s exit listed ∷ xs) m xs (each-ended (queries o) late f)) (sym h.ranked_is ∙ e) in
           subst (λ w. IsOperation m (Act.Ended m s exit listed ∷ xs) w o) (sym (rank_by m (after r) true (list_all (is_queried m) (after r).levels) e refl)) (record {
-            req = h.req; kind = h.kind; target = h.target; begin = h.begin; over = h.over; distinct = h.distinct; queries_are = queried;
+            req = h.req;
+            kind = h.kind;
+            target = h.target;
+            begin = h.begin;
+            over = h.over;
+            distinct = h.distinct;
+            queries_are = queried;
             ranks_are = subst (λ ls. AllZip (IsLevel o (Act.Ended m s exit listed ∷ xs)) ls (ranks o m (Act.Ended m s exit listed ∷ xs)))
-              (sym (tried-changed (level_ended s exit listed o.over m) (ended s exit listed o.over m) (λ l. refl) (λ l. refl) r.levels))
-              (subst (AllZip (IsLevel o (Act.Ended m s exit listed ∷ xs)) (map (level_ended s exit listed o.over m) (tried_levels r.levels))) (sym k.0)
-              (zip_map _ _ (level_ended s exit listed o.over m) (level-ended o m s exit listed xs few) (tried_levels r.levels) (ranks o m xs) h.ranks_are));
+                (sym (tried-changed (level_ended s exit listed o.over m) (ended s exit listed o.over m) (λ l. refl) (λ l. refl) r.levels))
+                (subst (AllZip (IsLevel o (Act.Ended m s exit listed ∷ xs)) (map (level_ended s exit listed o.over m) (tried_levels r.levels))) (sym k.0)
+                (zip_map _ _ (level_ended s exit listed o.over m) (level-ended o m s exit listed xs few) (tried_levels r.levels) (ranks o m xs) h.ranks_are));
             ranked_is = e ∙ sym k.1;
-            unranked = λ f. let wrong : true ≡ false = sym e ∙ f in cc
+            unranked = λ f. let wrong : true ≡ false = sym e ∙ f in cc;
           })
       go false e = let u = h.unranked e in
           ranked-once o m (Act.Ended m s exit listed ∷ xs) (after r) h.distinct h.req h.kind h.target h.begin h.over e (record {
-            unlevelled = u.unlevelled; few = u.few; queried = (query e, u.queried);
-            candidates = zip_map _ _ (level_ended s exit listed o.over m) (candidate-ended (query e)) r.levels o.candidates u.candidates
+            unlevelled = u.unlevelled;
+            few = u.few;
+            queried = (query e, u.queried);
+            candidates = zip_map _ _ (level_ended s exit listed o.over m) (candidate-ended (query e)) r.levels o.candidates u.candidates;
           })
 
   pub operation-ended : (r : KeptOperation) → (r.ranked ≡ false → is_query_phase s.phase ≡ true) → AllByRecursion (IsLate o m s xs) (queries o) → IsOperation m xs r o →

@@ -37,9 +37,10 @@ one_device Kind.Status d = refl
 -- a candidate as the level of a number
 level-ranked : (o : Operation) (xs : List Act) (k : ℕ) (l : KeptLevel) (c : QueriedDevice) → IsCandidate o xs l c → IsLevel o xs (ranked k l) (rank o.kind k (Some c.device ∷ []))
 level-ranked o xs k l c h = rw (one_device o.kind c.device) (record {
-  index = refl; unfit = h.fit;
+  index = refl;
+  unfit = h.fit;
   firsts = rw h.firsts (h.is k, tt);
-  ons = rw h.ons tt
+  ons = rw h.ons tt;
 })
 
 -- the candidates from a number on
@@ -60,7 +61,7 @@ ranks-from o xs k (l ∷ ls) (c ∷ cs) few z =
 
     go : (b : Bool) → ((n : ℕ) → n + length cs < 256 → AllZip (IsLevel o xs) (tried_levels (ranked_levels n ls)) (ranked_from o.kind n (filter (λ c. Standing.capable_query o xs c.query) cs))) →
         AllZip (IsLevel o xs) (tried_levels (cond b (ranked k l) l ∷ ranked_levels (cond b (capped 8 (k + 1)) k) ls))
-            (ranked_from o.kind k (cond b (c ∷ filter (λ c. Standing.capable_query o xs c.query) cs) (filter (λ c. Standing.capable_query o xs c.query) cs)))
+        (ranked_from o.kind k (cond b (c ∷ filter (λ c. Standing.capable_query o xs c.query) cs) (filter (λ c. Standing.capable_query o xs c.query) cs)))
     go true ih = (level-ranked o xs k l c z.0, rw next (ih (k + 1) (let f : k + length cs + 1 < 256 = fits in omega (arith, f))))
     go false ih = rw z.0.untried (ih k (let f : k + length cs + 1 < 256 = fits in omega (arith, f)))
 

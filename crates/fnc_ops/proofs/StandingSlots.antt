@@ -147,7 +147,7 @@ module _ (o : Operation) (m : ℕ) (xs : List Act) where
   late-one s run e r t h c p =
       let same : t.slot ≡ s = slot_same t.slot s p in
       let alive : last_of t.slot xs ≡ LastRun.Alive (last_begun t.slot xs) =
-          alive-kept t.slot run (last_of t.slot xs) refl (ap (λ w. last_run w xs) same ∙ e) (subst (Agrees (last_begun t.slot xs) (last_of t.slot xs)) (ap (λ w. last_run w xs) same ∙ e) (last-agrees t.slot xs)) in
+      alive-kept t.slot run (last_of t.slot xs) refl (ap (λ w. last_run w xs) same ∙ e) (subst (Agrees (last_begun t.slot xs) (last_of t.slot xs)) (ap (λ w. last_run w xs) same ∙ e) (last-agrees t.slot xs)) in
       let k = h.trying (last_begun t.slot xs) (h.is.last_is ∙ alive) in
       let unsuccessful : has_succeeded t o.over xs ≡ false = sym h.is.succeeded ∙ k.0 in
       let unfailed : (failed t o.over xs == tries t) ≡ false = sym (ap₂ ◌==◌ h.is.failed_are h.is.tries_is) ∙ k.1 in

@@ -59,7 +59,7 @@ standing_among h req (r ∷ rs) [] z = absurd z
 standing_among h req (r ∷ rs) (o ∷ os) z =
     let same : (r.req == req) ≡ (o.req == req) = ap (λ n. n == req) z.0.operation.req in
     subst (λ b. IsStandingAtMoment h (unwrap_or (option_map (λ r. r.moment) (cond b (Some r) (find (is_of req) rs))) 0)
-      (option_and_then (λ o. OperationRecords.standing o.moment o) (cond b (Some r) (find (is_of req) rs))) (cond (o.req == req) (Some o) (find (λ o. o.req == req) os)))
+    (option_and_then (λ o. OperationRecords.standing o.moment o) (cond b (Some r) (find (is_of req) rs))) (cond (o.req == req) (Some o) (find (λ o. o.req == req) os)))
     (sym same) (go (o.req == req) (standing_among h req rs os z.1))
   where
     go : (b : Bool) → IsStandingAtMoment h (unwrap_or (option_map (λ r. r.moment) (find (is_of req) rs)) 0) (OpsRecords.standing req rs) (find (λ o. o.req == req) os) →

@@ -50,11 +50,11 @@ module _ (h : History) (m : ℕ) (run : Run) (req : Req) (t : Task) (reg : Reg) 
       let now : IsOperation m (acts o.req h) r o = subst (λ n. IsOperation n (acts o.req h) r o) at s.operation in
       let few_acts : AreFew (acts o.req h) = (let k : length (acts o.req h) ≤ length h = acts-few o.req h in omega (arith, k, few)) in
       let next : IsOperation m (Act.Begun m run.0 t.slot ∷ acts o.req h) (operation_started t.slot m r) o =
-          operation-started o m run.0 t.slot (acts o.req h) few_acts early r (standing-query o m (acts o.req h) r now t e) (standing-free o m (acts o.req h) r now t e) now in
+      operation-started o m run.0 t.slot (acts o.req h) few_acts early r (standing-query o m (acts o.req h) r now t e) (standing-free o m (acts o.req h) r now t e) now in
       let slot : start_standing m r ≡ operation_started t.slot m r =
-          same-slot o (standing_slot m r) r (subst (BothOr (IsShortSlot o (acts o.req h)) (standing_slot m r)) e (standing_slot_is o m (acts o.req h) r now)) in
+      same-slot o (standing_slot m r) r (subst (BothOr (IsShortSlot o (acts o.req h)) (standing_slot m r)) e (standing_slot_is o m (acts o.req h) r now)) in
       let kept : IsKept (Act.Begun m run.0 t.slot ∷ acts o.req h) (unanswered o.req h) (is_confirmed o h) (operation_started t.slot m r) o =
-          record { operation = subst (λ n. IsOperation n (Act.Begun m run.0 t.slot ∷ acts o.req h) (operation_started t.slot m r) o) (sym at) next; waiting_are = s.waiting_are; confirmed_is = s.confirmed_is } in
+      record { operation = subst (λ n. IsOperation n (Act.Begun m run.0 t.slot ∷ acts o.req h) (operation_started t.slot m r) o) (sym at) next; waiting_are = s.waiting_are; confirmed_is = s.confirmed_is } in
       subst (λ w. Stands after w o) (sym slot)
       (subst (λ xs. IsKept xs (unanswered o.req h) (is_confirmed o h) (operation_started t.slot m r) o) (sym (acts-start o.req m run req t.slot reg kind attempt h same)) kept)
 
@@ -101,8 +101,16 @@ module _ (h : History) (m : ℕ) (client target : List ℕ) where
     where
       same_operation : IsOperation r.moment (acts o.req h) r o → IsOperation r.moment (acts o.req h) (record r { confirmed = true }) o
       same_operation i = record {
-        req = i.req; kind = i.kind; target = i.target; begin = i.begin; over = i.over; distinct = i.distinct;
-        queries_are = i.queries_are; ranks_are = i.ranks_are; ranked_is = i.ranked_is; unranked = i.unranked
+        req = i.req;
+        kind = i.kind;
+        target = i.target;
+        begin = i.begin;
+        over = i.over;
+        distinct = i.distinct;
+        queries_are = i.queries_are;
+        ranks_are = i.ranks_are;
+        ranked_is = i.ranked_is;
+        unranked = i.unranked;
       }
 
       go : (b : Bool) → bytes_eq o.target target ≡ b → Stands told (cond b (record r { confirmed = true }) r) o

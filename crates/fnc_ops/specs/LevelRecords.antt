@@ -95,5 +95,5 @@ abbrev pub level_ended : Slot → Exit → Bool → ℕ → ℕ → KeptLevel �
 level_ended s exit listed over m l = record l {
   query = option_map (ended s exit listed over m) l.query;
   firsts = map (ended s exit listed over m) l.firsts;
-  ons = map (ended s exit listed over m) l.ons
+  ons = map (ended s exit listed over m) l.ons;
 }

@@ -13,6 +13,7 @@ use Rattle.fnc_ops.specs.KeptLevel.{KeptLevel}
 use Rattle.fnc_ops.specs.KeptOperation.{KeptOperation}
 use Rattle.fnc_ops.specs.SlotRecords.{attempt, ready, limit}
 use Rattle.fnc_ops.specs.LevelRecords.{is_queried, open_query, is_lost, is_done, standing_in, latest_query, latest_tried, ranked_if_capable, next_rank, level_started, level_ended}
+use Rattle.fnc_journal.specs.Missing.{first_of, has_any}
 
 -- the first query that is not concluded
 abbrev pub first_query : ℕ → List KeptLevel → Option SlotRecord
@@ -118,3 +119,11 @@ rest_of (r ∷ rs) = rs
 -- after a reply to the least request that waits
 abbrev pub replied : KeptOperation → KeptOperation
 replied o = record o { members = rest_of o.members }
+
+-- the least request that waits
+abbrev pub first_member : KeptOperation → Option Req
+first_member o = first_of o.members
+
+-- whether one waits
+abbrev pub is_waiting : KeptOperation → Bool
+is_waiting o = has_any o.members

@@ -1,11 +1,17 @@
 -- What the records of all operations say.
-use Rattle.std.specs.Prelude.{ℕ, List, [], ◌∷◌, Bool, ◌==◌, find, Option, Some, None, option_and_then}
+use Rattle.std.specs.Prelude.{ℕ, List, [], ◌∷◌, Bool, ◌==◌, find, Option, Some, None, option_and_then, map, filter, if◌then◌else◌}
 use Rattle.std.specs.Option.{option_or}
 use Rattle.fnc_journal.specs.declared.entry.Answer.{Answer}
 use Rattle.fnc_ops.specs.declared.operation.Standing.{Standing}
 use Rattle.fnc_ops.specs.declared.ops.Due.{Due}
 use Rattle.fnc_ops.specs.KeptOperation.{KeptOperation}
 use Rattle.fnc_ops.specs.OperationRecords as OperationRecords
+use Rattle.fnc_journal.specs.declared.entry.Event.{Event}
+use Rattle.fnc_journal.specs.declared.entry.Exit.{Exit}
+use Rattle.fnc_journal.specs.declared.entry.Req.{Req}
+use Rattle.fnc_journal.specs.History.{History}
+use Rattle.fnc_journal.specs.Found.{first_found}
+use Rattle.fnc_ops.specs.declared.ops.RunStart.{RunStart}
 
 -- whether it is the operation of a number
 abbrev pub is_of : ℕ → KeptOperation → Bool
@@ -34,3 +40,25 @@ first_due m (o ∷ os) = option_or (due_to o.req (OperationRecords.due m o)) (fi
 abbrev pub shown : Option Due → Option DueTo
 shown None = None
 shown (Some d) = Some (record { req = d.req.0; answer = d.answer })
+
+-- the least request that waits for the operation of a number
+abbrev pub first_member : ℕ → List KeptOperation → Option Req
+first_member req os = option_and_then OperationRecords.first_member (find (is_of req) os)
+
+-- after a reply to it: an operation for which none waits is closed
+abbrev pub replied : ℕ → List KeptOperation → List KeptOperation
+replied req os = filter OperationRecords.is_waiting (map (OperationRecords.only req OperationRecords.replied) os)
+
+-- the operation and the slot of a run, as an entry says
+abbrev pub start_here : ℕ → Event → Option RunStart
+start_here n (Event.Start run req slot reg kind attempt) = if n == run.0 then Some (record { req = req; slot = slot }) else None
+start_here n _ = None
+
+-- as the journal says
+abbrev pub start_of : ℕ → History → Option RunStart
+start_of n h = first_found (λ e. start_here n e.event) h
+
+-- after the exit of a run that was started so
+abbrev pub ended : Option RunStart → Exit → Bool → ℕ → List KeptOperation → List KeptOperation
+ended None exit listed m os = os
+ended (Some s) exit listed m os = map (OperationRecords.only s.req.0 (OperationRecords.operation_ended s.slot exit listed m)) os

@@ -1,5 +1,5 @@
 -- When the records of the open operations stand for a journal, and what they are then asked for.
-use Rattle.std.specs.Prelude.{ℕ, List, ◌≡◌, ◌==◌, Bool, true, map, find, Option, Some, None, unwrap_or, option_map}
+use Rattle.std.specs.Prelude.{ℕ, List, ◌≡◌, ◌==◌, Bool, true, map, find, Option, Some, None, unwrap_or, option_map, option_and_then}
 use Rattle.std.specs.List.{AllZip, AllByRecursion}
 use Rattle.fnc_journal.specs.declared.entry.Entry.{Entry}
 use Rattle.fnc_journal.specs.declared.entry.Event.{Event}
@@ -18,6 +18,9 @@ use Rattle.fnc_ops.specs.declared.ops.Due.{Due}
 use Rattle.fnc_ops.specs.KeptOperation.{KeptOperation}
 use Rattle.fnc_ops.specs.OperationFacts.{IsOperation, IsStanding}
 use Rattle.fnc_ops.specs.OpsRecords.{is_of}
+use Rattle.fnc_journal.specs.declared.entry.Exit.{Exit}
+use Rattle.fnc_journal.specs.declared.entry.Answer.{Answer}
+use Rattle.fnc_journal.specs.Missing.{first_of}
 
 -- the numbers of requests
 abbrev pub numbers : List Req → List ℕ
@@ -72,3 +75,15 @@ start_entry m run req slot reg kind attempt = record { moment = m; event = Event
 -- the entry of an operator's word
 abbrev pub confirm_entry : ℕ → List ℕ → List ℕ → Entry
 confirm_entry m client target = record { moment = m; event = Event.Confirm client target }
+
+-- the entry of an exit
+abbrev pub exit_entry : ℕ → Run → Exit → Bool → Entry
+exit_entry m run exit listed = record { moment = m; event = Event.Exit run exit listed }
+
+-- the entry of a reply
+abbrev pub reply_entry : ℕ → Req → Answer → Entry
+reply_entry m req answer = record { moment = m; event = Event.Reply req answer }
+
+-- the least request that waits for the operation of a number, if that is open
+abbrev pub next_of : History → ℕ → Option ℕ
+next_of h req = option_and_then (λ o. first_of (unanswered o.req h)) (find (λ (o : Operation). o.req == req) (open_operations h))

@@ -164,7 +164,12 @@ impl LevelRecord {
     pub fn latest(&self, begin: u64, moment: u64, at: u64) -> u64
         ensures { result ≡ LevelRecords.latest_in begin moment at self.now }
     {
-        latest(&self.ons, begin, moment, latest(&self.firsts, begin, moment, at))
+        latest(
+            &self.ons,
+            begin,
+            moment,
+            latest(&self.firsts, begin, moment, at),
+        )
     }
 
     /// The same, where it is tried.

@@ -152,7 +152,14 @@ fn see_start(levels: &mut [LevelRecord], slot: Slot, moment: u64)
     }
 }
 
-fn see_exit(levels: &mut [LevelRecord], slot: Slot, exit: Exit, listed: bool, over: u64, moment: u64)
+fn see_exit(
+    levels: &mut [LevelRecord],
+    slot: Slot,
+    exit: Exit,
+    listed: bool,
+    over: u64,
+    moment: u64,
+)
     ensures { levels.new ≡ map (LevelRecords.level_ended slot exit listed over moment) levels.old }
 {
     for level in levels.iter_mut() {
@@ -217,20 +224,16 @@ impl OperationRecord {
 
     /// Where the operation stands at a moment. None where it stands nowhere.
     pub fn standing(&self, moment: u64) -> Option<Standing>
-        ensures {
-            (o : Operation) (xs : List Act) → IsOperation moment xs self.now o →
-            IsStanding o moment xs result (Stands.standing o moment xs)
-        }
+        ensures { (o : Operation) (xs : List Act) → IsOperation moment xs self.now o →
+            IsStanding o moment xs result (Stands.standing o moment xs) }
     {
         self.kept_standing(moment)
     }
 
     /// The answer that is due to the operation at a moment. None where none is.
     pub fn due(&self, moment: u64) -> Option<Answer>
-        ensures {
-            (o : Operation) (xs : List Act) → IsOperation moment xs self.now o →
-            result ≡ Due.due o moment self.now.confirmed xs
-        }
+        ensures { (o : Operation) (xs : List Act) → IsOperation moment xs self.now o →
+            result ≡ Due.due o moment self.now.confirmed xs }
     {
         self.kept_due(moment)
     }
@@ -338,6 +341,42 @@ impl OperationRecord {
     {
         if !self.members.is_empty() {
             self.members.remove(0);
+        }
+    }
+
+    /// The same, where this is the operation.
+    pub fn see_exit_of(&mut self, operation: Req, slot: Slot, exit: Exit, listed: bool, moment: u64)
+        ensures { self.new ≡ OperationRecords.only operation.0 (OperationRecords.operation_ended slot exit listed moment) self.old }
+    {
+        if self.req.0 == operation.0 {
+            self.see_exit(slot, exit, listed, moment);
+        }
+    }
+
+    /// The same, where this is the operation.
+    pub fn see_reply_of(&mut self, operation: Req)
+        ensures { self.new ≡ OperationRecords.only operation.0 OperationRecords.replied self.old }
+    {
+        if self.req.0 == operation.0 {
+            self.see_reply();
+        }
+    }
+
+    /// Whether a request waits for its answer.
+    pub fn is_waiting(&self) -> bool
+        ensures { result ≡ OperationRecords.is_waiting self.now }
+    {
+        !self.members.is_empty()
+    }
+
+    /// The least request that waits.
+    pub fn first_member(&self) -> Option<Req>
+        ensures { result ≡ OperationRecords.first_member self.now }
+    {
+        if self.members.is_empty() {
+            None
+        } else {
+            Some(self.members[0])
         }
     }
 }

@@ -1,16 +1,19 @@
 // The records of all operations that are open.
 
-ghost use Rattle.std.specs.Prelude.{◌≡◌, ◌∷◌, [], ◌<◌, ◌≤◌, ◌+◌, ◌^◌, ◌==◌, ℕ, List, length, map, find, option_and_then};
+ghost use Rattle.std.specs.Prelude.{◌≡◌, ◌∷◌, [], ◌<◌, ◌≤◌, ◌+◌, ◌^◌, ◌==◌, ℕ, List, length, map, find, filter, option_map, true, Some, None};
 ghost use Rattle.std.specs.Option.{option_copied};
 ghost use Rattle.fnc_journal.specs.History.{History};
 ghost use Rattle.fnc_journal.specs.Slots.{Task};
 ghost use Rattle.fnc_journal.specs.Operations as Operations;
 ghost use Rattle.fnc_ops.specs.OperationRecords as OperationRecords;
 ghost use Rattle.fnc_ops.specs.OpsRecords as OpsRecords;
-ghost use Rattle.fnc_ops.specs.Stands.{StandsFor, AreAt, StandsAt, IsStandingOf, IsFirstDue, start_entry, confirm_entry};
+ghost use Rattle.fnc_ops.specs.Stands.{StandsFor, AreAt, StandsAt, IsStandingOf, IsFirstDue, start_entry, exit_entry, reply_entry, confirm_entry, next_of};
+ghost use Rattle.fnc_journal.specs.Missing as Missing;
+ghost use Rattle.fnc_journal.specs.Lawful.{Lawful};
+ghost use Rattle.fnc_journal.specs.Startable.{is_alive};
 
 use crate::operation::{OperationRecord, Standing};
-use fnc_journal::{Answer, Journal, Kind, Reg, Req, Run};
+use fnc_journal::{Answer, Event, Exit, Journal, Kind, Reg, Req, Run, Slot};
 use std::alloc::Global;
 use std::marker::Model;
 
@@ -35,6 +38,57 @@ impl Model for Ops {
     ghost Value = { List KeptOperation };
 
     ghost view = { λ o. o.records.items };
+}
+
+/// Of which operation and slot a run was started.
+#[derive(Clone, Copy, Debug)]
+struct RunStart {
+    req: Req,
+    slot: Slot,
+}
+
+fn start_here(event: &Event, run: Run) -> Option<RunStart>
+    ensures { result ≡ OpsRecords.start_here run.0 event.now }
+{
+    match event {
+        Event::Start {
+            run: r,
+            req,
+            slot,
+            ..
+        } => {
+            if run.0 == r.0 {
+                Some(RunStart {
+                    req: *req,
+                    slot: *slot,
+                })
+            } else {
+                None
+            }
+        }
+        _ => None,
+    }
+}
+
+fn first_start(earlier: Option<RunStart>, here: Option<RunStart>) -> Option<RunStart>
+    ensures { result ≡ Missing.or_here earlier here }
+{
+    match earlier {
+        Some(start) => Some(start),
+        None => here,
+    }
+}
+
+/// Of which operation and slot the run of a number was started first.
+fn start_of(journal: &Journal, run: Run) -> Option<RunStart>
+    ensures { result ≡ OpsRecords.start_of run.0 journal.now.history }
+{
+    let mut found = None;
+    for index in 0..journal.len() {
+        let here = start_here(&journal.entry(index).event, run);
+        found = first_start(found, here);
+    }
+    found
 }
 
 fn find_record(records: &[OperationRecord], operation: Req) -> Option<&OperationRecord>
@@ -79,6 +133,44 @@ fn see_confirm(records: &mut [OperationRecord], target: &str)
 {
     for record in records.iter_mut() {
         record.see_confirm(target);
+    }
+}
+
+fn see_exit(
+    records: &mut [OperationRecord],
+    operation: Req,
+    slot: Slot,
+    exit: Exit,
+    listed: bool,
+    moment: u64,
+)
+    ensures { records.new ≡ map (OperationRecords.only operation.0 (OperationRecords.operation_ended slot exit listed moment)) records.old }
+{
+    for record in records.iter_mut() {
+        record.see_exit_of(operation, slot, exit, listed, moment);
+    }
+}
+
+fn see_reply(records: &mut [OperationRecord], operation: Req)
+    ensures { records.new ≡ map (OperationRecords.only operation.0 OperationRecords.replied) records.old }
+{
+    for record in records.iter_mut() {
+        record.see_reply_of(operation);
+    }
+}
+
+fn keep_waiting(records: &mut Vec<OperationRecord>)
+    ensures { records.new.items ≡ filter OperationRecords.is_waiting records.old.items }
+{
+    records.retain(|r| r.is_waiting());
+}
+
+fn first_member(records: &[OperationRecord], operation: Req) -> Option<Req>
+    ensures { result ≡ OpsRecords.first_member operation.0 records.now }
+{
+    match find_record(records, operation) {
+        Some(record) => record.first_member(),
+        None => None,
     }
 }
 
@@ -132,10 +224,8 @@ impl Ops {
         requires at { AreAt moment self.old }
         requires early { moment ≤ 10 ^ 15 }
         requires few { length journal.now.history + 1 < 2 ^ 32 }
-        ensures {
-            (t : Task) (reg : Reg) (kind : Kind) (attempt : ℕ) → StandsAt journal.now.history moment operation.0 t →
-            StandsFor self.new (start_entry moment run operation t.slot reg kind attempt ∷ journal.now.history)
-        }
+        ensures { (t : Task) (reg : Reg) (kind : Kind) (attempt : ℕ) → StandsAt journal.now.history moment operation.0 t →
+            StandsFor self.new (start_entry moment run operation t.slot reg kind attempt ∷ journal.now.history) }
     {
         self.kept_started(operation, moment);
     }
@@ -149,10 +239,57 @@ impl Ops {
     /// An operator said that a target is down: of its operations that are open this is known from now on.
     pub fn confirm(&mut self, journal: &Journal, target: &str)
         requires stands { StandsFor self.old journal.now.history }
-        ensures {
-            (moment : ℕ) (client : List ℕ) → StandsFor self.new (confirm_entry moment client target.now ∷ journal.now.history)
-        }
+        ensures { (moment : ℕ) (client : List ℕ) → StandsFor self.new (confirm_entry moment client target.now ∷ journal.now.history) }
     {
         self.kept_confirmed(target);
+    }
+
+    fn kept_ended(&mut self, start: Option<RunStart>, exit: Exit, listed: bool, moment: u64)
+        ensures { self.new ≡ OpsRecords.ended start exit listed moment self.old }
+    {
+        if let Some(s) = start {
+            see_exit(&mut self.records, s.req, s.slot, exit, listed, moment);
+        }
+    }
+
+    /// A run has ended, of an operation that is open or of one that is not.
+    pub fn ended(&mut self, journal: &Journal, run: Run, exit: Exit, listed: bool, moment: u64)
+        requires stands { StandsFor self.old journal.now.history }
+        requires at { AreAt moment self.old }
+        requires lawful { Lawful journal.now.history }
+        requires alive { is_alive run.0 journal.now.history ≡ true }
+        requires few { length journal.now.history + 1 < 2 ^ 32 }
+        ensures { StandsFor self.new (exit_entry moment run exit listed ∷ journal.now.history) }
+    {
+        let start = start_of(journal, run);
+        self.kept_ended(start, exit, listed, moment);
+    }
+
+    fn kept_member(&self, operation: Req) -> Option<Req>
+        ensures { result ≡ OpsRecords.first_member operation.0 self.now }
+    {
+        first_member(&self.records, operation)
+    }
+
+    fn kept_replied(&mut self, operation: Req)
+        ensures { self.new ≡ OpsRecords.replied operation.0 self.old }
+    {
+        see_reply(&mut self.records, operation);
+        keep_waiting(&mut self.records);
+    }
+
+    /// Takes the least request that waits for an operation, to which its reply is given now. With the last one
+    /// the operation is closed. None where the operation is not open; then nothing changes.
+    pub fn next_member(&mut self, operation: Req) -> Option<Req>
+        ensures member { (h : History) → StandsFor self.old h → option_map (λ r. r.0) result ≡ next_of h operation.0 }
+        ensures none { result ≡ None → self.new ≡ self.old }
+        ensures stands { (h : History) (req : Req) (moment : ℕ) (answer : Answer) → Lawful h → StandsFor self.old h → result ≡ Some req →
+            StandsFor self.new (reply_entry moment req answer ∷ h) }
+    {
+        let member = self.kept_member(operation);
+        if let Some(_) = member {
+            self.kept_replied(operation);
+        }
+        member
     }
 }
