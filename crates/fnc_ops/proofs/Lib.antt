@@ -14,3 +14,4 @@ pub mod StandsAnswers
 pub mod StandsSteps
 pub mod StandsExits
 pub mod StandsReplies
+pub mod StandsMoments

@@ -99,21 +99,21 @@ own-run (e ∷ before) l n st f = go (started n before) refl f (λ x k. own-run 
 
 -- what becomes known leaves the rest of a record
 module _ (m : ℕ) (r : KeptOperation) where
-  moment-ranked : (ranked_if_queried m r).moment ≡ r.moment
+  pub moment-ranked : (ranked_if_queried m r).moment ≡ r.moment
   moment-ranked = go (not r.ranked && list_all (is_queried m) r.levels)
     where
       go : (b : Bool) → (cond b (record r { ranked = true; levels = ranked_levels 1 r.levels }) r).moment ≡ r.moment
       go true = refl
       go false = refl
 
-  members-ranked : (ranked_if_queried m r).members ≡ r.members
+  pub members-ranked : (ranked_if_queried m r).members ≡ r.members
   members-ranked = go (not r.ranked && list_all (is_queried m) r.levels)
     where
       go : (b : Bool) → (cond b (record r { ranked = true; levels = ranked_levels 1 r.levels }) r).members ≡ r.members
       go true = refl
       go false = refl
 
-  confirmed-ranked : (ranked_if_queried m r).confirmed ≡ r.confirmed
+  pub confirmed-ranked : (ranked_if_queried m r).confirmed ≡ r.confirmed
   confirmed-ranked = go (not r.ranked && list_all (is_queried m) r.levels)
     where
       go : (b : Bool) → (cond b (record r { ranked = true; levels = ranked_levels 1 r.levels }) r).confirmed ≡ r.confirmed

@@ -11,7 +11,7 @@ use Rattle.fnc_ops.specs.declared.operation.Standing.{Standing}
 use Rattle.fnc_ops.specs.declared.slot.SlotRecord.{SlotRecord}
 use Rattle.fnc_ops.specs.KeptLevel.{KeptLevel}
 use Rattle.fnc_ops.specs.KeptOperation.{KeptOperation}
-use Rattle.fnc_ops.specs.SlotRecords.{attempt, ready, limit}
+use Rattle.fnc_ops.specs.SlotRecords.{attempt, ready, limit, come_by}
 use Rattle.fnc_ops.specs.LevelRecords.{is_queried, open_query, is_lost, is_done, standing_in, latest_query, latest_tried, ranked_if_capable, next_rank, level_started, level_ended}
 use Rattle.fnc_journal.specs.Missing.{first_of, has_any}
 
@@ -49,6 +49,10 @@ standing_at since over s = record { slot = s.slot; reg = s.reg; kind = s.kind; a
 -- where the operation stands
 abbrev pub standing : ℕ → KeptOperation → Option Standing
 standing m o = option_map (standing_at (since m o) o.over) (standing_slot m o)
+
+-- the end of the standing slot's action, where that has come
+abbrev pub expired_at : ℕ → KeptOperation → Option ℕ
+expired_at m o = option_and_then (λ s. come_by m s.end) (standing_slot o.moment o)
 
 -- the number of the level that passes
 abbrev pub passed : ℕ → ℕ → List KeptLevel → Option ℕ

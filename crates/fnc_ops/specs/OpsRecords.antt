@@ -1,5 +1,5 @@
 -- What the records of all operations say.
-use Rattle.std.specs.Prelude.{ℕ, List, [], ◌∷◌, Bool, ◌==◌, find, Option, Some, None, option_and_then, map, filter, if◌then◌else◌}
+use Rattle.std.specs.Prelude.{ℕ, List, [], ◌∷◌, Bool, ◌==◌, find, Option, Some, None, option_and_then, map, filter, if◌then◌else◌, nat_lt, option_map}
 use Rattle.std.specs.Option.{option_or}
 use Rattle.fnc_journal.specs.declared.entry.Answer.{Answer}
 use Rattle.fnc_ops.specs.declared.operation.Standing.{Standing}
@@ -12,6 +12,7 @@ use Rattle.fnc_journal.specs.declared.entry.Req.{Req}
 use Rattle.fnc_journal.specs.History.{History}
 use Rattle.fnc_journal.specs.Found.{first_found}
 use Rattle.fnc_ops.specs.declared.ops.RunStart.{RunStart}
+use Rattle.fnc_ops.specs.declared.ops.Expiry.{Expiry}
 
 -- whether it is the operation of a number
 abbrev pub is_of : ℕ → KeptOperation → Bool
@@ -62,3 +63,31 @@ start_of n h = first_found (λ e. start_here n e.event) h
 abbrev pub ended : Option RunStart → Exit → Bool → ℕ → List KeptOperation → List KeptOperation
 ended None exit listed m os = os
 ended (Some s) exit listed m os = map (OperationRecords.only s.req.0 (OperationRecords.operation_ended s.slot exit listed m)) os
+
+-- an operation whose standing slot has come to its action's end
+abbrev pub expiry_by : KeptOperation → Option ℕ → Option Expiry
+expiry_by o None = None
+expiry_by o (Some at) = Some (record { req = record { 0 = o.req }; end = at })
+
+abbrev pub expiry_of : ℕ → KeptOperation → Option Expiry
+expiry_of m o = expiry_by o (OperationRecords.expired_at m o)
+
+-- the sooner of two, of equals the first
+abbrev pub sooner : Option Expiry → Option Expiry → Option Expiry
+sooner None b = b
+sooner (Some a) None = Some a
+sooner (Some a) (Some b) = Some (if nat_lt b.end a.end then b else a)
+
+-- the first of all
+abbrev pub first_expiry : ℕ → List KeptOperation → Option Expiry
+first_expiry m [] = None
+first_expiry m (o ∷ os) = sooner (expiry_of m o) (first_expiry m os)
+
+-- its operation
+abbrev pub first_expired : ℕ → List KeptOperation → Option Req
+first_expired m os = option_map (λ (e : Expiry). e.req) (first_expiry m os)
+
+-- a later moment, for one operation or for all
+abbrev pub moved : Option Req → ℕ → List KeptOperation → List KeptOperation
+moved None m os = map (OperationRecords.at_moment m) os
+moved (Some req) m os = map (OperationRecords.only req.0 (OperationRecords.at_moment m)) os

@@ -1,6 +1,6 @@
 -- What the record of a slot says, and what it becomes by the starts and exits of its operation's runs.
 -- Numbers are cut where they would not fit; of an operation that stands in a lawful journal none is.
-use Rattle.std.specs.Prelude.{ℕ, Bool, true, false, ◌==◌, ◌+◌, ◌-◌, ◌^◌, min, max, ◌||◌, ◌&&◌, not, nat_lt, if◌then◌else◌, Option, Some, None, option_map, unwrap_or}
+use Rattle.std.specs.Prelude.{ℕ, Bool, true, false, ◌==◌, ◌+◌, ◌-◌, ◌^◌, min, max, ◌||◌, ◌&&◌, not, nat_lt, if◌then◌else◌, Option, Some, None, option_map, unwrap_or, nat_le}
 use Rattle.fnc_journal.specs.declared.entry.Exit.{Exit}
 use Rattle.fnc_journal.specs.declared.entry.Slot.{Slot}
 use Rattle.fnc_journal.specs.Exits.{is_success}
@@ -17,6 +17,11 @@ capped w n = min n (2 ^ w - 1)
 abbrev pub earlier_or : Option ℕ → ℕ → Option ℕ
 earlier_or None m = Some m
 earlier_or (Some at) m = Some at
+
+-- a moment that has come
+abbrev pub come_by : ℕ → Option ℕ → Option ℕ
+come_by m None = None
+come_by m (Some at) = if nat_le at m then Some at else None
 
 -- whether the allowed tries failed or the action's end has come
 abbrev pub is_spent : ℕ → SlotRecord → Bool

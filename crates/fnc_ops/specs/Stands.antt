@@ -1,5 +1,5 @@
 -- When the records of the open operations stand for a journal, and what they are then asked for.
-use Rattle.std.specs.Prelude.{ℕ, List, ◌≡◌, ◌==◌, Bool, true, map, find, Option, Some, None, unwrap_or, option_map, option_and_then}
+use Rattle.std.specs.Prelude.{ℕ, List, ◌≡◌, ◌==◌, Bool, true, map, find, Option, Some, None, unwrap_or, option_map, option_and_then, [], ◌∷◌, ◌≤◌, nat_lt, if◌then◌else◌}
 use Rattle.std.specs.List.{AllZip, AllByRecursion}
 use Rattle.fnc_journal.specs.declared.entry.Entry.{Entry}
 use Rattle.fnc_journal.specs.declared.entry.Event.{Event}
@@ -10,7 +10,7 @@ use Rattle.fnc_journal.specs.declared.entry.Run.{Run}
 use Rattle.fnc_journal.specs.declared.entry.Slot.{Slot}
 use Rattle.fnc_journal.specs.History.{History}
 use Rattle.fnc_journal.specs.Slots.{Task, Operation}
-use Rattle.fnc_journal.specs.Acts.{Act, acts}
+use Rattle.fnc_journal.specs.Acts.{Act, acts, end}
 use Rattle.fnc_journal.specs.Due.{is_confirmed}
 use Rattle.fnc_journal.specs.Operations.{open_operations, unanswered, stands_at, due_to}
 use Rattle.fnc_ops.specs.declared.operation.Standing.{Standing}
@@ -21,6 +21,7 @@ use Rattle.fnc_ops.specs.OpsRecords.{is_of}
 use Rattle.fnc_journal.specs.declared.entry.Exit.{Exit}
 use Rattle.fnc_journal.specs.declared.entry.Answer.{Answer}
 use Rattle.fnc_journal.specs.Missing.{first_of}
+use Rattle.fnc_ops.specs.SlotRecords.{come_by}
 
 -- the numbers of requests
 abbrev pub numbers : List Req → List ℕ
@@ -87,3 +88,37 @@ reply_entry m req answer = record { moment = m; event = Event.Reply req answer }
 -- the least request that waits for the operation of a number, if that is open
 abbrev pub next_of : History → ℕ → Option ℕ
 next_of h req = option_and_then (λ o. first_of (unanswered o.req h)) (find (λ (o : Operation). o.req == req) (open_operations h))
+
+-- no record speaks at a later moment
+abbrev pub AreBy : ℕ → List KeptOperation → Type 0
+AreBy m rs = AllByRecursion (λ r. r.moment ≤ m) rs
+
+-- an operation whose standing slot has come to its action's end
+pub record Ending : Type 0 where
+  pub req : ℕ
+  pub at : ℕ
+
+-- with an end that may be missing
+abbrev pub ending : Operation → Option ℕ → Option Ending
+ending o None = None
+ending o (Some at) = Some (record { req = o.req; at = at })
+
+-- of an operation that stood there at a moment, at a later one
+abbrev pub ending_of : History → ℕ → ℕ → Operation → Option Ending
+ending_of h m later o = ending o (option_and_then (λ t. come_by later (end t (acts o.req h))) (stands_at h m o))
+
+-- the sooner of two by that end, of equals the first
+abbrev pub sooner_ending : Option Ending → Option Ending → Option Ending
+sooner_ending None b = b
+sooner_ending (Some a) None = Some a
+sooner_ending (Some a) (Some b) = Some (if nat_lt b.at a.at then b else a)
+
+-- the first of all, each operation standing where it does at the moment at which its record speaks
+abbrev pub first_ending : History → ℕ → List KeptOperation → List Operation → Option Ending
+first_ending h later [] os = None
+first_ending h later (r ∷ rs) [] = None
+first_ending h later (r ∷ rs) (o ∷ os) = sooner_ending (ending_of h r.moment later o) (first_ending h later rs os)
+
+-- its number
+abbrev pub first_ended : History → ℕ → List KeptOperation → Option ℕ
+first_ended h later rs = option_map (λ (e : Ending). e.req) (first_ending h later rs (open_operations h))

@@ -1,14 +1,9 @@
 // What is kept of an operation that is open.
 
-ghost use Rattle.std.specs.Prelude.{◌≡◌, List, find, map, not, option_map};
+ghost use Rattle.std.specs.Prelude.{◌≡◌, find, map, not, option_map};
 ghost use Rattle.std.specs.List.{list_all, list_any};
 ghost use Rattle.std.specs.Option.{option_copied};
 ghost use Rattle.fnc_journal.specs.Device as Device;
-ghost use Rattle.fnc_journal.specs.Slots.{Operation};
-ghost use Rattle.fnc_journal.specs.Acts.{Act};
-ghost use Rattle.fnc_journal.specs.Standing as Stands;
-ghost use Rattle.fnc_journal.specs.Due as Due;
-ghost use Rattle.fnc_ops.specs.OperationFacts.{IsOperation, IsStanding};
 ghost use Rattle.fnc_ops.specs.SlotRecords as SlotRecords;
 ghost use Rattle.fnc_ops.specs.LevelRecords as LevelRecords;
 ghost use Rattle.fnc_ops.specs.OperationRecords as OperationRecords;
@@ -199,7 +194,7 @@ impl OperationRecord {
         latest_levels(&self.levels, begin, moment, queried)
     }
 
-    fn kept_standing(&self, moment: u64) -> Option<Standing>
+    fn standing(&self, moment: u64) -> Option<Standing>
         ensures { result ≡ OperationRecords.standing moment self.now }
     {
         match self.standing_slot(moment) {
@@ -219,23 +214,7 @@ impl OperationRecord {
     pub fn standing_now(&self) -> Option<Standing>
         ensures { result ≡ OperationRecords.standing self.now.moment self.now }
     {
-        self.kept_standing(self.moment)
-    }
-
-    /// Where the operation stands at a moment. None where it stands nowhere.
-    pub fn standing(&self, moment: u64) -> Option<Standing>
-        ensures { (o : Operation) (xs : List Act) → IsOperation moment xs self.now o →
-            IsStanding o moment xs result (Stands.standing o moment xs) }
-    {
-        self.kept_standing(moment)
-    }
-
-    /// The answer that is due to the operation at a moment. None where none is.
-    pub fn due(&self, moment: u64) -> Option<Answer>
-        ensures { (o : Operation) (xs : List Act) → IsOperation moment xs self.now o →
-            result ≡ Due.due o moment self.now.confirmed xs }
-    {
-        self.kept_due(moment)
+        self.standing(self.moment)
     }
 
     fn failure_due(&self, moment: u64) -> Option<Answer>
@@ -254,7 +233,8 @@ impl OperationRecord {
         }
     }
 
-    pub fn kept_due(&self, moment: u64) -> Option<Answer>
+    /// The answer that is due to the operation at a moment. None where none is.
+    pub fn due(&self, moment: u64) -> Option<Answer>
         ensures { result ≡ OperationRecords.due moment self.now }
     {
         if self.confirmed && cuts_power(self.kind) {
@@ -272,6 +252,25 @@ impl OperationRecord {
         if !self.ranked && all_queried(&self.levels, moment) {
             rank(&mut self.levels);
             self.ranked = true;
+        }
+    }
+
+    /// The end of the standing slot's action, where that has come.
+    pub fn expired_at(&self, moment: u64) -> Option<u64>
+        ensures { result ≡ OperationRecords.expired_at moment self.now }
+    {
+        match self.standing_slot(self.moment) {
+            Some(slot) => slot.end_by(moment),
+            None => None,
+        }
+    }
+
+    /// The same, where this is the operation.
+    pub fn see_moment_of(&mut self, operation: Req, moment: u64)
+        ensures { self.new ≡ OperationRecords.only operation.0 (OperationRecords.at_moment moment) self.old }
+    {
+        if self.req.0 == operation.0 {
+            self.see_moment(moment);
         }
     }
 

@@ -7,7 +7,7 @@ ghost use Rattle.fnc_journal.specs.Slots.{Task};
 ghost use Rattle.fnc_journal.specs.Operations as Operations;
 ghost use Rattle.fnc_ops.specs.OperationRecords as OperationRecords;
 ghost use Rattle.fnc_ops.specs.OpsRecords as OpsRecords;
-ghost use Rattle.fnc_ops.specs.Stands.{StandsFor, AreAt, StandsAt, IsStandingOf, IsFirstDue, start_entry, exit_entry, reply_entry, confirm_entry, next_of};
+ghost use Rattle.fnc_ops.specs.Stands.{StandsFor, AreAt, AreBy, StandsAt, first_ended, IsStandingOf, IsFirstDue, start_entry, exit_entry, reply_entry, confirm_entry, next_of};
 ghost use Rattle.fnc_journal.specs.Missing as Missing;
 ghost use Rattle.fnc_journal.specs.Lawful.{Lawful};
 ghost use Rattle.fnc_journal.specs.Startable.{is_alive};
@@ -91,6 +91,71 @@ fn start_of(journal: &Journal, run: Run) -> Option<RunStart>
     found
 }
 
+/// An operation whose standing slot has come to its action's end.
+#[derive(Clone, Copy, Debug)]
+struct Expiry {
+    req: Req,
+    end: u64,
+}
+
+fn expiry_of(operation: &OperationRecord, moment: u64) -> Option<Expiry>
+    ensures { result ≡ OpsRecords.expiry_of moment operation.now }
+{
+    match operation.expired_at(moment) {
+        Some(end) => Some(Expiry {
+            req: operation.req,
+            end,
+        }),
+        None => None,
+    }
+}
+
+/// The sooner of two by that end; of equals the first.
+fn sooner(first: Option<Expiry>, second: Option<Expiry>) -> Option<Expiry>
+    ensures { result ≡ OpsRecords.sooner first second }
+{
+    match (first, second) {
+        (Some(a), Some(b)) => Some(if b.end < a.end { b } else { a }),
+        (Some(a), None) => Some(a),
+        (None, b) => b,
+    }
+}
+
+fn first_expiry(records: &[OperationRecord], moment: u64) -> Option<Expiry>
+    ensures { result ≡ OpsRecords.first_expiry moment records.now }
+{
+    let mut first = None;
+    for record in records {
+        first = sooner(first, expiry_of(record, moment));
+    }
+    first
+}
+
+fn first_expired(records: &[OperationRecord], moment: u64) -> Option<Req>
+    ensures { result ≡ OpsRecords.first_expired moment records.now }
+{
+    match first_expiry(records, moment) {
+        Some(expiry) => Some(expiry.req),
+        None => None,
+    }
+}
+
+fn see_moment(records: &mut [OperationRecord], moment: u64)
+    ensures { records.new ≡ map (OperationRecords.at_moment moment) records.old }
+{
+    for record in records.iter_mut() {
+        record.see_moment(moment);
+    }
+}
+
+fn see_moment_of(records: &mut [OperationRecord], operation: Req, moment: u64)
+    ensures { records.new ≡ map (OperationRecords.only operation.0 (OperationRecords.at_moment moment)) records.old }
+{
+    for record in records.iter_mut() {
+        record.see_moment_of(operation, moment);
+    }
+}
+
 fn find_record(records: &[OperationRecord], operation: Req) -> Option<&OperationRecord>
     ensures { option_copied result ≡ find (OpsRecords.is_of operation.0) records.now }
 {
@@ -110,7 +175,7 @@ fn first_due(records: &[OperationRecord], moment: u64) -> Option<Due>
     ensures { OpsRecords.shown result ≡ OpsRecords.first_due moment records.now }
 {
     for record in records {
-        if let Some(answer) = record.kept_due(moment) {
+        if let Some(answer) = record.due(moment) {
             return Some(Due {
                 req: record.req,
                 answer,
@@ -210,6 +275,37 @@ impl Ops {
         ensures { (h : History) → StandsFor self.now h → IsFirstDue h moment result (Operations.first_due h moment) }
     {
         self.kept_due(moment)
+    }
+
+    fn kept_expired(&self, moment: u64) -> Option<Req>
+        ensures { result ≡ OpsRecords.first_expired moment self.now }
+    {
+        first_expired(&self.records, moment)
+    }
+
+    fn kept_moved(&mut self, operation: Option<Req>, moment: u64)
+        ensures { self.new ≡ OpsRecords.moved operation moment self.old }
+    {
+        match operation {
+            Some(req) => see_moment_of(&mut self.records, req, moment),
+            None => see_moment(&mut self.records, moment),
+        }
+    }
+
+    /// A later moment has come. Of the operations whose standing slot has come to its action's end the first is
+    /// taken, by that end and then by number, and its record speaks at the moment from now on. None where there
+    /// is none: then all records do.
+    pub fn expire(&mut self, journal: &Journal, moment: u64) -> Option<Req>
+        requires stands { StandsFor self.old journal.now.history }
+        requires later { AreBy moment self.old }
+        ensures first { option_map (λ r. r.0) result ≡ first_ended journal.now.history moment self.old }
+        ensures stands { StandsFor self.new journal.now.history }
+        ensures one { (req : Req) → result ≡ Some req → self.new ≡ map (OperationRecords.only req.0 (OperationRecords.at_moment moment)) self.old }
+        ensures all { result ≡ None → AreAt moment self.new }
+    {
+        let expired = self.kept_expired(moment);
+        self.kept_moved(expired, moment);
+        expired
     }
 
     fn kept_started(&mut self, operation: Req, moment: u64)

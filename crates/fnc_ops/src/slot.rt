@@ -79,6 +79,16 @@ impl SlotRecord {
         }
     }
 
+    /// Its action's end, where that has come.
+    pub fn end_by(&self, moment: u64) -> Option<u64>
+        ensures { result ≡ SlotRecords.come_by moment self.now.end }
+    {
+        match self.end {
+            None => None,
+            Some(end) => { if end <= moment { Some(end) } else { None } }
+        }
+    }
+
     /// Whether its allowed tries failed or its action's end has come.
     pub fn is_spent(&self, moment: u64) -> bool
         ensures { result ≡ SlotRecords.is_spent moment self.now }
