@@ -1,0 +1,17 @@
+pub mod SlotSteps
+pub mod SlotAnswers
+pub mod Counts
+pub mod Zip
+pub mod LevelSteps
+pub mod LevelAnswers
+pub mod LevelLists
+pub mod Latest
+pub mod OperationAnswers
+pub mod Ranking
+pub mod OperationSteps
+pub mod StandingSlots
+pub mod StandsAnswers
+pub mod StandsSteps
+pub mod StandsExits
+pub mod StandsReplies
+pub mod StandsMoments

@@ -1,0 +1,93 @@
+-- What the records of all operations say.
+use Rattle.std.specs.Prelude.{ℕ, List, [], ◌∷◌, Bool, ◌==◌, find, Option, Some, None, option_and_then, map, filter, if◌then◌else◌, nat_lt, option_map}
+use Rattle.std.specs.Option.{option_or}
+use Rattle.fnc_journal.specs.declared.entry.Answer.{Answer}
+use Rattle.fnc_ops.specs.declared.operation.Standing.{Standing}
+use Rattle.fnc_ops.specs.declared.ops.Due.{Due}
+use Rattle.fnc_ops.specs.KeptOperation.{KeptOperation}
+use Rattle.fnc_ops.specs.OperationRecords as OperationRecords
+use Rattle.fnc_journal.specs.declared.entry.Event.{Event}
+use Rattle.fnc_journal.specs.declared.entry.Exit.{Exit}
+use Rattle.fnc_journal.specs.declared.entry.Req.{Req}
+use Rattle.fnc_journal.specs.History.{History}
+use Rattle.fnc_journal.specs.Found.{first_found}
+use Rattle.fnc_ops.specs.declared.ops.RunStart.{RunStart}
+use Rattle.fnc_ops.specs.declared.ops.Expiry.{Expiry}
+
+-- whether it is the operation of a number
+abbrev pub is_of : ℕ → KeptOperation → Bool
+is_of req o = o.req == req
+
+-- where the operation of a number stands, at the moment at which its record speaks
+abbrev pub standing : ℕ → List KeptOperation → Option Standing
+standing req os = option_and_then (λ o. OperationRecords.standing o.moment o) (find (is_of req) os)
+
+-- the number of an operation with the answer that is due to it
+pub record DueTo : Type 0 where
+  pub req : ℕ
+  pub answer : Answer
+
+-- with an answer that may be missing
+abbrev pub due_to : ℕ → Option Answer → Option DueTo
+due_to req None = None
+due_to req (Some answer) = Some (record { req = req; answer = answer })
+
+-- the first of them to which one is due
+abbrev pub first_due : ℕ → List KeptOperation → Option DueTo
+first_due m [] = None
+first_due m (o ∷ os) = option_or (due_to o.req (OperationRecords.due m o)) (first_due m os)
+
+-- what an answer that is due says
+abbrev pub shown : Option Due → Option DueTo
+shown None = None
+shown (Some d) = Some (record { req = d.req.0; answer = d.answer })
+
+-- the least request that waits for the operation of a number
+abbrev pub first_member : ℕ → List KeptOperation → Option Req
+first_member req os = option_and_then OperationRecords.first_member (find (is_of req) os)
+
+-- after a reply to it: an operation for which none waits is closed
+abbrev pub replied : ℕ → List KeptOperation → List KeptOperation
+replied req os = filter OperationRecords.is_waiting (map (OperationRecords.only req OperationRecords.replied) os)
+
+-- the operation and the slot of a run, as an entry says
+abbrev pub start_here : ℕ → Event → Option RunStart
+start_here n (Event.Start run req slot reg kind attempt) = if n == run.0 then Some (record { req = req; slot = slot }) else None
+start_here n _ = None
+
+-- as the journal says
+abbrev pub start_of : ℕ → History → Option RunStart
+start_of n h = first_found (λ e. start_here n e.event) h
+
+-- after the exit of a run that was started so
+abbrev pub ended : Option RunStart → Exit → Bool → ℕ → List KeptOperation → List KeptOperation
+ended None exit listed m os = os
+ended (Some s) exit listed m os = map (OperationRecords.only s.req.0 (OperationRecords.operation_ended s.slot exit listed m)) os
+
+-- an operation whose standing slot has come to its action's end
+abbrev pub expiry_by : KeptOperation → Option ℕ → Option Expiry
+expiry_by o None = None
+expiry_by o (Some at) = Some (record { req = record { 0 = o.req }; end = at })
+
+abbrev pub expiry_of : ℕ → KeptOperation → Option Expiry
+expiry_of m o = expiry_by o (OperationRecords.expired_at m o)
+
+-- the sooner of two, of equals the first
+abbrev pub sooner : Option Expiry → Option Expiry → Option Expiry
+sooner None b = b
+sooner (Some a) None = Some a
+sooner (Some a) (Some b) = Some (if nat_lt b.end a.end then b else a)
+
+-- the first of all
+abbrev pub first_expiry : ℕ → List KeptOperation → Option Expiry
+first_expiry m [] = None
+first_expiry m (o ∷ os) = sooner (expiry_of m o) (first_expiry m os)
+
+-- its operation
+abbrev pub first_expired : ℕ → List KeptOperation → Option Req
+first_expired m os = option_map (λ (e : Expiry). e.req) (first_expiry m os)
+
+-- a later moment, for one operation or for all
+abbrev pub moved : Option Req → ℕ → List KeptOperation → List KeptOperation
+moved None m os = map (OperationRecords.at_moment m) os
+moved (Some req) m os = map (OperationRecords.only req.0 (OperationRecords.at_moment m)) os

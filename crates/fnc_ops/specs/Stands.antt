@@ -1,0 +1,124 @@
+-- When the records of the open operations stand for a journal, and what they are then asked for.
+use Rattle.std.specs.Prelude.{ℕ, List, ◌≡◌, ◌==◌, Bool, true, map, find, Option, Some, None, unwrap_or, option_map, option_and_then, [], ◌∷◌, ◌≤◌, nat_lt, if◌then◌else◌}
+use Rattle.std.specs.List.{AllZip, AllByRecursion}
+use Rattle.fnc_journal.specs.declared.entry.Entry.{Entry}
+use Rattle.fnc_journal.specs.declared.entry.Event.{Event}
+use Rattle.fnc_journal.specs.declared.entry.Kind.{Kind}
+use Rattle.fnc_journal.specs.declared.entry.Reg.{Reg}
+use Rattle.fnc_journal.specs.declared.entry.Req.{Req}
+use Rattle.fnc_journal.specs.declared.entry.Run.{Run}
+use Rattle.fnc_journal.specs.declared.entry.Slot.{Slot}
+use Rattle.fnc_journal.specs.History.{History}
+use Rattle.fnc_journal.specs.Slots.{Task, Operation}
+use Rattle.fnc_journal.specs.Acts.{Act, acts, end}
+use Rattle.fnc_journal.specs.Due.{is_confirmed}
+use Rattle.fnc_journal.specs.Operations.{open_operations, unanswered, stands_at, due_to}
+use Rattle.fnc_ops.specs.declared.operation.Standing.{Standing}
+use Rattle.fnc_ops.specs.declared.ops.Due.{Due}
+use Rattle.fnc_ops.specs.KeptOperation.{KeptOperation}
+use Rattle.fnc_ops.specs.OperationFacts.{IsOperation, IsStanding}
+use Rattle.fnc_ops.specs.OpsRecords.{is_of}
+use Rattle.fnc_journal.specs.declared.entry.Exit.{Exit}
+use Rattle.fnc_journal.specs.declared.entry.Answer.{Answer}
+use Rattle.fnc_journal.specs.Missing.{first_of}
+use Rattle.fnc_ops.specs.SlotRecords.{come_by}
+
+-- the numbers of requests
+abbrev pub numbers : List Req → List ℕ
+numbers rs = map (λ r. r.0) rs
+
+-- the record of an operation with these acts and these waiting requests, which an operator confirmed or not
+pub record IsKept (xs : List Act) (waiting : List ℕ) (confirmed : Bool) (r : KeptOperation) (o : Operation) : Type 0 where
+  pub operation : IsOperation r.moment xs r o
+  pub waiting_are : numbers r.members ≡ waiting
+  pub confirmed_is : r.confirmed ≡ confirmed
+
+-- the record of an operation in a journal
+abbrev pub Stands : History → KeptOperation → Operation → Type 0
+Stands h r o = IsKept (acts o.req h) (unanswered o.req h) (is_confirmed o h) r o
+
+-- the records are those of the operations that are open, in rising order
+abbrev pub StandsFor : List KeptOperation → History → Type 0
+StandsFor rs h = AllZip (Stands h) rs (open_operations h)
+
+-- each record speaks at this moment
+abbrev pub AreAt : ℕ → List KeptOperation → Type 0
+AreAt m rs = AllByRecursion (λ r. r.moment ≡ m) rs
+
+-- the open operation of a number stands at this slot
+abbrev pub StandsAt : History → ℕ → ℕ → Task → Type 0
+StandsAt h m req t = AllByRecursion (λ o. (o.req == req) ≡ true → stands_at h m o ≡ Some t) (open_operations h)
+
+-- the moment at which the record of an operation speaks
+abbrev pub moment_of : ℕ → List KeptOperation → ℕ
+moment_of req rs = unwrap_or (option_map (λ r. r.moment) (find (is_of req) rs)) 0
+
+-- where an operation stands at a moment, if it is open
+abbrev pub IsStandingAtMoment : History → ℕ → Option Standing → Option Operation → Type 0
+IsStandingAtMoment h m s None = s ≡ None
+IsStandingAtMoment h m s (Some o) = IsStanding o m (acts o.req h) s (stands_at h m o)
+
+-- where the operation of a number stands
+abbrev pub IsStandingOf : History → ℕ → List KeptOperation → Option Standing → Type 0
+IsStandingOf h req rs s = IsStandingAtMoment h (moment_of req rs) s (find (λ o. o.req == req) (open_operations h))
+
+-- the first answer that is due, and to which operation
+abbrev pub IsFirstDue : History → ℕ → Option Due → Option Operation → Type 0
+IsFirstDue h m None None = Unit {0}
+IsFirstDue h m None (Some o) = ⊥
+IsFirstDue h m (Some d) None = ⊥
+IsFirstDue h m (Some d) (Some o) = (o.req ≡ d.req.0) × (due_to h m o ≡ Some d.answer)
+
+-- the entry of a start
+abbrev pub start_entry : ℕ → Run → Req → Slot → Reg → Kind → ℕ → Entry
+start_entry m run req slot reg kind attempt = record { moment = m; event = Event.Start run req slot reg kind attempt }
+
+-- the entry of an operator's word
+abbrev pub confirm_entry : ℕ → List ℕ → List ℕ → Entry
+confirm_entry m client target = record { moment = m; event = Event.Confirm client target }
+
+-- the entry of an exit
+abbrev pub exit_entry : ℕ → Run → Exit → Bool → Entry
+exit_entry m run exit listed = record { moment = m; event = Event.Exit run exit listed }
+
+-- the entry of a reply
+abbrev pub reply_entry : ℕ → Req → Answer → Entry
+reply_entry m req answer = record { moment = m; event = Event.Reply req answer }
+
+-- the least request that waits for the operation of a number, if that is open
+abbrev pub next_of : History → ℕ → Option ℕ
+next_of h req = option_and_then (λ o. first_of (unanswered o.req h)) (find (λ (o : Operation). o.req == req) (open_operations h))
+
+-- no record speaks at a later moment
+abbrev pub AreBy : ℕ → List KeptOperation → Type 0
+AreBy m rs = AllByRecursion (λ r. r.moment ≤ m) rs
+
+-- an operation whose standing slot has come to its action's end
+pub record Ending : Type 0 where
+  pub req : ℕ
+  pub at : ℕ
+
+-- with an end that may be missing
+abbrev pub ending : Operation → Option ℕ → Option Ending
+ending o None = None
+ending o (Some at) = Some (record { req = o.req; at = at })
+
+-- of an operation that stood there at a moment, at a later one
+abbrev pub ending_of : History → ℕ → ℕ → Operation → Option Ending
+ending_of h m later o = ending o (option_and_then (λ t. come_by later (end t (acts o.req h))) (stands_at h m o))
+
+-- the sooner of two by that end, of equals the first
+abbrev pub sooner_ending : Option Ending → Option Ending → Option Ending
+sooner_ending None b = b
+sooner_ending (Some a) None = Some a
+sooner_ending (Some a) (Some b) = Some (if nat_lt b.at a.at then b else a)
+
+-- the first of all, each operation standing where it does at the moment at which its record speaks
+abbrev pub first_ending : History → ℕ → List KeptOperation → List Operation → Option Ending
+first_ending h later [] os = None
+first_ending h later (r ∷ rs) [] = None
+first_ending h later (r ∷ rs) (o ∷ os) = sooner_ending (ending_of h r.moment later o) (first_ending h later rs os)
+
+-- its number
+abbrev pub first_ended : History → ℕ → List KeptOperation → Option ℕ
+first_ended h later rs = option_map (λ (e : Ending). e.req) (first_ending h later rs (open_operations h))

@@ -1,0 +1,11 @@
+// The records of open operations: what the starts and exits of their runs say of their slots and levels.
+// Each answer that is read off a record equals the definition's search of the journal.
+#![tactic(auto)]
+
+mod level;
+mod operation;
+mod ops;
+mod slot;
+
+pub use operation::Standing;
+pub use ops::{Due, Ops};
