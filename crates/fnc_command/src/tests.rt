@@ -37,33 +37,6 @@ fn lines_that_do_not_begin(rt: HostRuntime) {
 }
 
 #[test]
-fn lines_of_worked_sessions(rt: HostRuntime) {
-    let refused: [(&[u8], Cause); 7] = [
-        (b"0 pass x", Cause::ExtraWord),
-        (b"0 ask c1", Cause::MissingWord),
-        (b"0 exit x 0", Cause::BadNumber),
-        (b"0 ask c1 off n1 total=0", Cause::BadTotal),
-        (b"12 frob", Cause::UnknownVerb),
-        (b"12 ask c1 list n1", Cause::BadAction),
-        (b"", Cause::Empty),
-    ];
-    for (line, cause) in refused {
-        assert!(rt; is_refused(rt.alloc(), line, Mode::Timed, cause));
-    }
-    let read: [&[u8]; 6] = [
-        b"0 ask c1 off n%2F1 total=5s",
-        b"5000 pass",
-        b"12 exit 99 0",
-        b"12 device d2 pcmk_action_limit=0",
-        b"12 remove d9",
-        b"12 confirm op n1",
-    ];
-    for line in read {
-        assert!(rt; read_command(rt.alloc(), line, Mode::Timed).is_ok());
-    }
-}
-
-#[test]
 fn counts_of_words(rt: HostRuntime) {
     let rows: [(&[u8], Cause); 12] = [
         (b"0 pass x", Cause::ExtraWord),
