@@ -15,3 +15,4 @@ pub mod StandsSteps
 pub mod StandsExits
 pub mod StandsReplies
 pub mod StandsMoments
+pub mod StandsJoins

@@ -1,5 +1,5 @@
 -- What the record of an operation says.
-use Rattle.std.specs.Prelude.{ℕ, List, [], ◌∷◌, Bool, ◌&&◌, not, nat_le, if◌then◌else◌, find, Option, Some, None, option_map, option_and_then, true, map, bytes_eq, ◌==◌}
+use Rattle.std.specs.Prelude.{ℕ, List, [], ◌∷◌, Bool, ◌&&◌, not, nat_le, if◌then◌else◌, find, Option, Some, None, option_map, option_and_then, true, map, bytes_eq, ◌==◌, unwrap_or, false}
 use Rattle.std.specs.List.{list_any, list_all}
 use Rattle.std.specs.Option.{option_or}
 use Rattle.fnc_journal.specs.declared.entry.Answer.{Answer}
@@ -14,6 +14,9 @@ use Rattle.fnc_ops.specs.KeptOperation.{KeptOperation}
 use Rattle.fnc_ops.specs.SlotRecords.{attempt, ready, limit, come_by}
 use Rattle.fnc_ops.specs.LevelRecords.{is_queried, open_query, is_lost, is_done, standing_in, latest_query, latest_tried, ranked_if_capable, next_rank, level_started, level_ended}
 use Rattle.fnc_journal.specs.Missing.{first_of, has_any}
+use Rattle.fnc_journal.specs.declared.entry.Kind.{Kind}
+use Rattle.fnc_journal.specs.Same.{same_kind}
+use Rattle.fnc_journal.specs.Operations.{is_on_phase}
 
 -- the first query that is not concluded
 abbrev pub first_query : ℕ → List KeptLevel → Option SlotRecord
@@ -53,6 +56,14 @@ standing m o = option_map (standing_at (since m o) o.over) (standing_slot m o)
 -- the end of the standing slot's action, where that has come
 abbrev pub expired_at : ℕ → KeptOperation → Option ℕ
 expired_at m o = option_and_then (λ s. come_by m s.end) (standing_slot o.moment o)
+
+-- whether it stands in its on phase, at the moment at which the record speaks
+abbrev pub stands_on : KeptOperation → Bool
+stands_on o = unwrap_or (option_map (λ s. is_on_phase s.slot.phase) (standing_slot o.moment o)) false
+
+-- whether a request for a target and an action joins it
+abbrev pub is_joinable : Kind → List ℕ → KeptOperation → Bool
+is_joinable kind target o = same_kind kind o.kind && bytes_eq target o.target && not (stands_on o)
 
 -- the number of the level that passes
 abbrev pub passed : ℕ → ℕ → List KeptLevel → Option ℕ

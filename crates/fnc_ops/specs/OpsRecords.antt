@@ -13,6 +13,7 @@ use Rattle.fnc_journal.specs.History.{History}
 use Rattle.fnc_journal.specs.Found.{first_found}
 use Rattle.fnc_ops.specs.declared.ops.RunStart.{RunStart}
 use Rattle.fnc_ops.specs.declared.ops.Expiry.{Expiry}
+use Rattle.fnc_journal.specs.declared.entry.Kind.{Kind}
 
 -- whether it is the operation of a number
 abbrev pub is_of : ℕ → KeptOperation → Bool
@@ -91,3 +92,7 @@ first_expired m os = option_map (λ (e : Expiry). e.req) (first_expiry m os)
 abbrev pub moved : Option Req → ℕ → List KeptOperation → List KeptOperation
 moved None m os = map (OperationRecords.at_moment m) os
 moved (Some req) m os = map (OperationRecords.only req.0 (OperationRecords.at_moment m)) os
+
+-- the first that a request for a target and an action joins
+abbrev pub joinable : Kind → List ℕ → List KeptOperation → Option Req
+joinable kind target os = option_map (λ (o : KeptOperation). record { 0 = o.req }) (find (OperationRecords.is_joinable kind target) os)

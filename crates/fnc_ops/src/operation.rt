@@ -4,13 +4,15 @@ ghost use Rattle.std.specs.Prelude.{◌≡◌, find, map, not, option_map};
 ghost use Rattle.std.specs.List.{list_all, list_any};
 ghost use Rattle.std.specs.Option.{option_copied};
 ghost use Rattle.fnc_journal.specs.Device as Device;
+ghost use Rattle.fnc_journal.specs.Operations as Operations;
+ghost use Rattle.fnc_journal.specs.Same as Same;
 ghost use Rattle.fnc_ops.specs.SlotRecords as SlotRecords;
 ghost use Rattle.fnc_ops.specs.LevelRecords as LevelRecords;
 ghost use Rattle.fnc_ops.specs.OperationRecords as OperationRecords;
 
 use crate::level::LevelRecord;
 use crate::slot::SlotRecord;
-use fnc_journal::{Answer, Exit, Kind, Reg, Req, Slot, Text};
+use fnc_journal::{Answer, Exit, Kind, Phase, Reg, Req, Slot, Text};
 use std::marker::Model;
 
 /// Where an operation stands: the slot, with its device's registration and the action that is run there,
@@ -58,6 +60,29 @@ fn cuts_power(kind: Kind) -> bool
 {
     match kind {
         Kind::Off | Kind::Reboot => true,
+        _ => false,
+    }
+}
+
+/// Whether two actions are the same.
+fn same_kind(first: Kind, second: Kind) -> bool
+    ensures { result ≡ Same.same_kind first second }
+{
+    match (first, second) {
+        (Kind::On, Kind::On) => true,
+        (Kind::Off, Kind::Off) => true,
+        (Kind::Reboot, Kind::Reboot) => true,
+        (Kind::List, Kind::List) => true,
+        (Kind::Status, Kind::Status) => true,
+        _ => false,
+    }
+}
+
+fn is_on(phase: Phase) -> bool
+    ensures { result ≡ Operations.is_on_phase phase }
+{
+    match phase {
+        Phase::On => true,
         _ => false,
     }
 }
@@ -231,6 +256,23 @@ impl OperationRecord {
         } else {
             None
         }
+    }
+
+    /// Whether it stands in its on phase, at the moment at which the record speaks.
+    fn stands_on(&self) -> bool
+        ensures { result ≡ OperationRecords.stands_on self.now }
+    {
+        match self.standing_slot(self.moment) {
+            Some(s) => is_on(s.slot.phase),
+            None => false,
+        }
+    }
+
+    /// Whether a request for a target and an action joins it: not where it stands in its on phase.
+    pub fn is_joinable(&self, target: &str, kind: Kind) -> bool
+        ensures { result ≡ OperationRecords.is_joinable kind target.now self.now }
+    {
+        same_kind(kind, self.kind) && self.target.is(target) && !self.stands_on()
     }
 
     /// The answer that is due to the operation at a moment. None where none is.

@@ -171,6 +171,25 @@ fn standing_of(records: &[OperationRecord], operation: Req) -> Option<Standing>
     }
 }
 
+fn first_joinable<'a>(
+    records: &'a [OperationRecord],
+    target: &str,
+    kind: Kind,
+) -> Option<&'a OperationRecord>
+    ensures { option_copied result ≡ find (OperationRecords.is_joinable kind target.now) records.now }
+{
+    records.iter().find(|r| r.is_joinable(target, kind))
+}
+
+fn joinable(records: &[OperationRecord], target: &str, kind: Kind) -> Option<Req>
+    ensures { result ≡ OpsRecords.joinable kind target.now records.now }
+{
+    match first_joinable(records, target, kind) {
+        Some(record) => Some(record.req),
+        None => None,
+    }
+}
+
 fn first_due(records: &[OperationRecord], moment: u64) -> Option<Due>
     ensures { OpsRecords.shown result ≡ OpsRecords.first_due moment records.now }
 {
@@ -261,6 +280,21 @@ impl Ops {
         ensures { (h : History) → StandsFor self.now h → IsStandingOf h operation.0 self.now result }
     {
         self.kept_standing(operation)
+    }
+
+    fn kept_joinable(&self, target: &str, kind: Kind) -> Option<Req>
+        ensures { result ≡ OpsRecords.joinable kind target.now self.now }
+    {
+        joinable(&self.records, target, kind)
+    }
+
+    /// The operation that a request for a target and an action joins: the least that is open and does not stand
+    /// in its on phase. None where there is none.
+    pub fn joinable(&self, target: &str, kind: Kind) -> Option<Req>
+        ensures { (h : History) (moment : ℕ) → AreAt moment self.now → StandsFor self.now h →
+            option_map (λ r. r.0) result ≡ option_map (λ o. o.req) (Operations.joined h moment kind target.now) }
+    {
+        self.kept_joinable(target, kind)
     }
 
     fn kept_due(&self, moment: u64) -> Option<Due>
