@@ -16,6 +16,8 @@ mod owed;
 mod queries;
 mod refusals;
 mod split_reboots;
+#[cfg(test)]
+mod tests;
 mod topology;
 mod unserved;
 
