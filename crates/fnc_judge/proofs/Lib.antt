@@ -13,3 +13,4 @@ pub mod CourseLemmas
 pub mod Opening
 pub mod Testings
 pub mod Firsts
+pub mod Searches

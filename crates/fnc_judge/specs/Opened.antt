@@ -1,5 +1,5 @@
 -- The open operations, one after another, as the judge keeps them.
-use Rattle.std.specs.Prelude.{ℕ, List, [], ◌∷◌, Bool, false, ◌==◌, ◌&&◌, not, if◌then◌else◌, filter, Option, Some, None, option_and_then, length}
+use Rattle.std.specs.Prelude.{ℕ, List, [], ◌∷◌, Bool, true, false, nat_lt, ◌==◌, ◌&&◌, not, if◌then◌else◌, filter, Option, Some, None, option_and_then, length}
 use Rattle.fnc_journal.specs.declared.entry.Event.{Event}
 use Rattle.fnc_journal.specs.History.{History}
 use Rattle.fnc_journal.specs.Missing.{append_some, first_of}
@@ -56,3 +56,8 @@ counts_here all l event = elim (begun_here event) [ None ↦ false | Some b ↦ 
 abbrev pub startable_any : History → ℕ → Option Pursued → Option Startable
 startable_any h m None = None
 startable_any h m (Some p) = startable h m (operation p)
+
+-- whether a start that is ready at a moment is sooner than what was found
+abbrev pub is_sooner : ℕ → Option Startable → Bool
+is_sooner ready None = true
+is_sooner ready (Some s) = nat_lt ready s.ready

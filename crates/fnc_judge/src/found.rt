@@ -108,29 +108,16 @@ fn asked_here<'a>(entry: &'a Entry, before: Past<'a>, req: u32) -> Option<Asked<
     }
 }
 
-fn asked_after<'a>(
-    earlier: Option<Asked<'a>>,
-    entry: &'a Entry,
-    before: Past<'a>,
-    req: u32,
-) -> Option<Asked<'a>>
-    ensures { result ≡ or_here earlier.entry (Found.asked_here req entry.now.moment before.entry entry.now.event) }
-{
-    match earlier {
-        Some(asked) => Some(asked),
-        None => asked_here(entry, before, req),
-    }
-}
-
 /// The request of a number.
 pub(crate) fn request<'a>(past: &Past<'a>, req: u32) -> Option<Asked<'a>>
     ensures { result ≡ Found.asked req past.now }
 {
-    let mut found = None;
     for i in 0..past.len() {
-        found = asked_after(found, past.entry(i), past.before(i), req);
+        if let Some(asked) = asked_here(past.entry(i), past.before(i), req) {
+            return Some(asked);
+        }
     }
-    found
+    None
 }
 
 fn lead_after(earlier: Option<u32>, event: &Event, req: u32) -> Option<u32>
@@ -242,19 +229,14 @@ fn is_reply_to(event: &Event, req: u32) -> bool
     }
 }
 
-fn is_reply_after(earlier: bool, event: &Event, req: u32) -> bool
-    ensures { result ≡ (Found.is_reply_to req event.now || earlier) }
-{
-    is_reply_to(event, req) || earlier
-}
-
 /// Whether a request has had its reply.
 pub(crate) fn is_answered(past: &Past<'_>, req: u32) -> bool
     ensures { result ≡ Found.is_answered req past.now }
 {
-    let mut found = false;
     for i in 0..past.len() {
-        found = is_reply_after(found, &past.entry(i).event, req);
+        if is_reply_to(&past.entry(i).event, req) {
+            return true;
+        }
     }
-    found
+    false
 }

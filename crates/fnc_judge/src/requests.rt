@@ -96,24 +96,16 @@ fn waiting_by(past: &Past<'_>, req: u32, event: &Event) -> Option<u32>
     }
 }
 
-fn waiting_after(earlier: Option<u32>, past: &Past<'_>, req: u32, event: &Event) -> Option<u32>
-    ensures { result ≡ or_here earlier (waiting_here past.now req event.now) }
-{
-    match earlier {
-        Some(earliest) => Some(earliest),
-        None => waiting_by(past, req, event),
-    }
-}
-
 /// The first request of an operation that has no reply.
 pub(crate) fn first_waiting(past: &Past<'_>, req: u32) -> Option<u32>
     ensures { result ≡ first_of (Operations.unanswered req past.now) }
 {
-    let mut found = None;
     for i in 0..past.len() {
-        found = waiting_after(found, past, req, &past.entry(i).event);
+        if let Some(number) = waiting_by(past, req, &past.entry(i).event) {
+            return Some(number);
+        }
     }
-    found
+    None
 }
 
 /// Whether an operation is open: whether a request of it waits.
@@ -162,36 +154,27 @@ fn is_due(past: &Past<'_>, moment: u64, operation: &Operation<'_>) -> bool
     due_to(past, moment, operation).is_some()
 }
 
-fn due_after<'a>(
-    earlier: Option<Operation<'a>>,
-    past: &Past<'_>,
-    moment: u64,
-    here: Option<Operation<'a>>,
-) -> Option<Operation<'a>>
-    ensures { result ≡ found_after (λ p. Operations.is_due past.now moment (Pursued.operation p)) earlier.entry here.entry }
+fn due_among<'a>(past: &Past<'_>, moment: u64, here: Option<Operation<'a>>) -> Option<Operation<'a>>
+    ensures { result ≡ found_after (λ p. Operations.is_due past.now moment (Pursued.operation p)) None here.entry }
 {
-    match earlier {
-        Some(first) => Some(first),
-        None => {
-            let operation = here?;
-            if is_due(past, moment, &operation) {
-                Some(operation)
-            } else {
-                None
-            }
-        }
+    let operation = here?;
+    if is_due(past, moment, &operation) {
+        Some(operation)
+    } else {
+        None
     }
 }
 
 fn find_due<'a>(past: &Past<'a>, moment: u64) -> Option<Operation<'a>>
     ensures { result ≡ find (λ p. Operations.is_due past.now moment (Pursued.operation p)) (opens past.now past.now) }
 {
-    let mut found = None;
     for i in 0..past.len() {
         let here = opened_by(past, &past.entry(i).event);
-        found = due_after(found, past, moment, here);
+        if let Some(operation) = due_among(past, moment, here) {
+            return Some(operation);
+        }
     }
-    found
+    None
 }
 
 /// The least operation to which an answer is due.

@@ -1,6 +1,6 @@
 // The rules that each entry of a lawful journal keeps, each tested for one entry and those before it.
 
-ghost use Rattle.std.specs.Prelude.{◌≡◌, ◌+◌, ◌<◌, ◌^◌, ◌-◌, if◌then◌else◌, false, Some, is_some, option_map, unwrap_or};
+ghost use Rattle.std.specs.Prelude.{◌≡◌, ◌+◌, ◌<◌, ◌^◌, ◌-◌, ◌&&◌, if◌then◌else◌, false, Some, is_some, option_map, unwrap_or};
 ghost use Rattle.std.specs.Option.{option_copied};
 ghost use Rattle.fnc_journal.specs.Acts as Acts;
 ghost use Rattle.fnc_journal.specs.Found as Found;
@@ -451,12 +451,19 @@ fn settled_since(past: &Past<'_>) -> bool
     settled(past, last_moment(past))
 }
 
+/// Whether nothing is due, at a moment and at the last.
+fn settled_twice(past: &Past<'_>, moment: u64) -> bool
+    ensures { result ≡ (Operations.settled past.now moment && Lawful.settled_since past.now) }
+{
+    settled(past, moment) && (last_moment(past) == moment || settled_since(past))
+}
+
 /// Before an input nothing is due, at its moment and at the last, and an Ask has the right lead.
 pub(crate) fn prompt(entry: &Entry, past: &Past<'_>) -> bool
     ensures { result ≡ Lawful.prompt entry.now past.now }
 {
     if is_input(&entry.event) {
-        settled(past, entry.moment) && settled_since(past) && leads(entry, past)
+        settled_twice(past, entry.moment) && leads(entry, past)
     } else {
         true
     }

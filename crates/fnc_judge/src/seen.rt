@@ -1,10 +1,12 @@
 // What the runs of an operation say of a slot.
 
-ghost use Rattle.std.specs.Prelude.{◌≡◌, ◌<◌, ◌≤◌, ◌&&◌, ◌+◌, ◌-◌, ◌^◌, IfSome, Some};
+ghost use Rattle.std.specs.Prelude.{◌≡◌, ◌<◌, ◌≤◌, ◌&&◌, ◌+◌, ◌-◌, ◌^◌, ℕ, [], IfSome, Some};
 ghost use Rattle.fnc_journal.specs.Acts as Acts;
+ghost use Rattle.fnc_journal.specs.Slots as Slots;
+ghost use Rattle.fnc_journal.specs.Prefix.{prefix};
 ghost use Rattle.fnc_journal.specs.Exits as Exits;
 ghost use Rattle.fnc_journal.specs.Missing as Missing;
-ghost use Rattle.fnc_judge.specs.Seen.{answered_by, begun_slot, concluded_at_by, concluded_by, confirmed_by, end_by, is_in_time_by, seen_begun, seen_ended, seen_exit, seen_failure, seen_in_time, seen_of, seen_success, seen_with, spent_by};
+ghost use Rattle.fnc_judge.specs.Seen.{answered_by, begun_slot, concluded_at_by, concluded_by, confirmed_by, end_by, is_in_time_by, seen_begun, seen_ended, seen_exit, seen_failure, seen_in_time, seen_of, seen_success, seen_with, spent_by, first_start_of, starts_for};
 
 use crate::past::Past;
 use crate::task::Task;
@@ -91,6 +93,20 @@ fn first_of(earlier: Option<u64>, moment: u64) -> Option<u64>
 }
 
 impl Seen {
+    /// Of no runs.
+    fn nothing() -> Seen
+        ensures { (t : Slots.Task) (over : ℕ) → result ≡ seen_of t over [] }
+    {
+        Seen {
+            begun: None,
+            failed: 0,
+            success: None,
+            last_failure: None,
+            listed: false,
+            last: Last::NoRun,
+        }
+    }
+
     /// With one more start.
     fn begun(self, task: &Task<'_>, moment: u64, run: u32, slot: Slot) -> Seen
         ensures { result ≡ seen_begun task.now self moment run slot }
@@ -290,20 +306,45 @@ fn has_come(end: Option<u128>, moment: u64) -> bool
     }
 }
 
+fn is_start_for(event: &Event, req: u32) -> bool
+    ensures { result ≡ starts_for req event.now }
+{
+    match event {
+        Event::Start { req: other, .. } => req == other.0,
+        _ => false,
+    }
+}
+
+/// The number of the first entry that starts a run of an operation.
+fn first_start(past: &Past<'_>, req: u32) -> Option<u32>
+    ensures { result ≡ first_start_of req past.now }
+{
+    for i in 0..past.len() {
+        if is_start_for(&past.entry(i).event, req) {
+            return Some(i);
+        }
+    }
+    None
+}
+
+/// What the runs of an operation say of a slot, where no run was started before the entry of a number.
+fn looked_from(past: &Past<'_>, req: u32, task: &Task<'_>, over: u128, from: u32) -> Seen
+    requires { Acts.acts req (prefix from past.now) ≡ [] }
+    ensures { result ≡ seen_of task.now over (Acts.acts req past.now) }
+{
+    let mut found = Seen::nothing();
+    for i in from..past.len() {
+        found = found.after(task, over, &past.before(i), req, past.entry(i));
+    }
+    found
+}
+
 /// What the runs of an operation say of a slot.
 pub(crate) fn looked_at(past: &Past<'_>, req: u32, task: &Task<'_>, over: u128) -> Seen
     ensures { result ≡ seen_of task.now over (Acts.acts req past.now) }
 {
-    let mut found = Seen {
-        begun: None,
-        failed: 0,
-        success: None,
-        last_failure: None,
-        listed: false,
-        last: Last::NoRun,
-    };
-    for i in 0..past.len() {
-        found = found.after(task, over, &past.before(i), req, past.entry(i));
+    match first_start(past, req) {
+        Some(from) => looked_from(past, req, task, over, from),
+        None => Seen::nothing(),
     }
-    found
 }

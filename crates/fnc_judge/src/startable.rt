@@ -1,10 +1,10 @@
 // The runs that are alive, and the start that comes first.
 
-ghost use Rattle.std.specs.Prelude.{◌≡◌, ◌&&◌, ◌+◌, ◌<◌, ◌^◌, ◌-◌, if◌then◌else◌, nat_le};
+ghost use Rattle.std.specs.Prelude.{◌≡◌, ◌&&◌, ◌+◌, ◌<◌, ◌^◌, ◌-◌, if◌then◌else◌, nat_le, Some};
 ghost use Rattle.fnc_journal.specs.Operations as Operations;
 ghost use Rattle.fnc_journal.specs.Registered.{lane};
 ghost use Rattle.fnc_journal.specs.Startable as Starts;
-ghost use Rattle.fnc_judge.specs.Opened.{counts, counts_here, startable_any};
+ghost use Rattle.fnc_judge.specs.Opened.{counts, counts_here, is_sooner, startable_any};
 ghost use Rattle.fnc_judge.specs.Pursued as Pursued;
 
 use crate::course::{ready, standing};
@@ -93,60 +93,80 @@ fn may_start(past: &Past<'_>, moment: u64, task: &Task<'_>, ready: u128) -> bool
     ready <= u128::from(moment) && has_place(past, task)
 }
 
-fn startable_ready<'a>(
+fn is_before(ready: u128, found: &Option<Startable<'_>>) -> bool
+    ensures { result ≡ is_sooner ready found.now }
+{
+    match found {
+        Some(first) => ready < first.ready,
+        None => true,
+    }
+}
+
+/// The sooner of what was found and the start of a slot that is ready. Only where that would be sooner
+/// is it asked whether there is room for it.
+fn soonest_ready<'a>(
+    found: Option<Startable<'a>>,
     past: &Past<'a>,
     moment: u64,
     operation: Operation<'a>,
     task: Task<'a>,
-    ready: Option<u128>,
+    ready: u128,
 ) -> Option<Startable<'a>>
-    ensures { result ≡ Starts.startable_ready past.now moment (Pursued.operation operation.entry) task.entry ready }
+    ensures { result ≡ Starts.soonest found.entry (Starts.startable_ready past.now moment (Pursued.operation operation.entry) task.entry (Some ready)) }
 {
-    let ready = ready?;
-    if may_start(past, moment, &task, ready) {
+    if is_before(ready, &found) && may_start(past, moment, &task, ready) {
         Some(Startable {
             operation,
             task,
             ready,
         })
     } else {
-        None
+        found
     }
 }
 
-/// The start that an operation may make at a moment.
-fn start_at<'a>(past: &Past<'a>, moment: u64, operation: Operation<'a>) -> Option<Startable<'a>>
-    ensures { result ≡ Starts.startable past.now moment (Pursued.operation operation.entry) }
+/// The sooner of what was found and the start of a slot.
+fn soonest_at<'a>(
+    found: Option<Startable<'a>>,
+    past: &Past<'a>,
+    moment: u64,
+    operation: Operation<'a>,
+    task: Task<'a>,
+) -> Option<Startable<'a>>
+    ensures { result ≡ Starts.soonest found.entry (Starts.startable_at past.now moment (Pursued.operation operation.entry) (Some task.entry)) }
 {
-    let task = standing(&operation, moment, past)?;
-    let ready = ready(&operation, moment, past, &task);
-    startable_ready(past, moment, operation, task, ready)
+    match ready(&operation, moment, past, &task) {
+        Some(ready) => soonest_ready(found, past, moment, operation, task, ready),
+        None => found,
+    }
 }
 
-fn startable_of<'a>(
+/// The sooner of what was found and the start of an operation.
+fn soonest_of<'a>(
+    found: Option<Startable<'a>>,
+    past: &Past<'a>,
+    moment: u64,
+    operation: Operation<'a>,
+) -> Option<Startable<'a>>
+    ensures { result ≡ Starts.soonest found.entry (Starts.startable past.now moment (Pursued.operation operation.entry)) }
+{
+    match standing(&operation, moment, past) {
+        Some(task) => soonest_at(found, past, moment, operation, task),
+        None => found,
+    }
+}
+
+fn soonest_with<'a>(
+    found: Option<Startable<'a>>,
     past: &Past<'a>,
     moment: u64,
     operation: Option<Operation<'a>>,
 ) -> Option<Startable<'a>>
-    ensures { result ≡ startable_any past.now moment operation.entry }
+    ensures { result ≡ Starts.soonest found.entry (startable_any past.now moment operation.entry) }
 {
-    let operation = operation?;
-    start_at(past, moment, operation)
-}
-
-fn sooner<'a>(a: Startable<'a>, b: Startable<'a>) -> Startable<'a>
-    ensures { result ≡ Starts.sooner a.entry b.entry }
-{
-    if b.ready < a.ready { b } else { a }
-}
-
-fn soonest<'a>(a: Option<Startable<'a>>, b: Option<Startable<'a>>) -> Option<Startable<'a>>
-    ensures { result ≡ Starts.soonest a.entry b.entry }
-{
-    match (a, b) {
-        (Some(a), Some(b)) => Some(sooner(a, b)),
-        (None, b) => b,
-        (a, None) => a,
+    match operation {
+        Some(operation) => soonest_of(found, past, moment, operation),
+        None => found,
     }
 }
 
@@ -156,8 +176,8 @@ pub(crate) fn first<'a>(past: &Past<'a>, moment: u64) -> Option<Startable<'a>>
 {
     let mut found = None;
     for i in 0..past.len() {
-        let here = startable_of(past, moment, opened_by(past, &past.entry(i).event));
-        found = soonest(found, here);
+        let here = opened_by(past, &past.entry(i).event);
+        found = soonest_with(found, past, moment, here);
     }
     found
 }

@@ -11,6 +11,8 @@ mod faulty_replies;
 mod faulty_starts;
 mod laws;
 mod limits;
+#[cfg(test)]
+mod many_requests;
 mod one_device;
 mod owed;
 mod queries;

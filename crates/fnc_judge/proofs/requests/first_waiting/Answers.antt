@@ -1,21 +1,29 @@
-use Rattle.std.proofs.Common.{sym, ap, ◌∙◌, arith}
+use Rattle.std.proofs.Common.{sym, ap, ◌≡◌, ◌∙◌, arith, None, Some}
 use Rattle.fnc_journal.specs.History.{History}
 use Rattle.fnc_journal.specs.Prefix.{prefix}
-use Rattle.fnc_journal.proofs.Prefixes.{prefix-all, prefix-more, prefix-none}
-use Rattle.fnc_journal.specs.Missing.{or_here}
+use Rattle.fnc_journal.proofs.Prefixes.{prefix-all, prefix-none}
 use Rattle.fnc_judge.specs.Opened.{waiting, waiting_here}
-use Rattle.fnc_judge.proofs.Opening.{waiting-more}
+use Rattle.fnc_judge.proofs.Searches.{goes-on, stops, waiting-first, waiting-kept}
 use Rattle.fnc_judge.proofs.requests.first_waiting.Goals as goal
 
 pub loop-i-init : goal.loop-i-init
-loop-i-init c = ap (λ (k : History). waiting c.args.past.now c.args.req k) (sym (prefix-none c.args.past.now))
+loop-i-init c = ap (waiting c.args.past.now c.args.req) (prefix-none c.args.past.now)
+
+pub returns-in-Some : goal.returns-in-Some
+returns-in-Some c =
+    let h : History = c.args.past.now in
+    let o = c.args.req in
+    let e = c.entry.result.now in
+    let here : waiting_here h o e.event ≡ Some c.in-Some.number = sym c.waiting_by.ensures ∙ c.in-Some.is in
+    sym (stops (waiting h o) (Some c.in-Some.number) (waiting-kept h o c.in-Some.number) h c.loop-i.i e (omega (arith, c.loop-i-test.true, c.len-i-end.ensures)) c.entry.ensures (waiting-first h o e (prefix c.loop-i.i h) (Some c.in-Some.number) c.loop-i.invariant here))
 
 pub loop-i-preserved : goal.loop-i-preserved
 loop-i-preserved c =
     let h : History = c.args.past.now in
+    let o = c.args.req in
     let e = c.entry.result.now in
-    c.waiting_after-found.ensures ∙ ap (λ a. or_here a (waiting_here h c.args.req e.event)) c.loop-i.invariant ∙ waiting-more h c.args.req e.moment e.event (prefix c.loop-i.i h)
-    ∙ ap (λ (k : History). waiting c.args.past.now c.args.req k) (sym (prefix-more h c.loop-i.i e (omega (arith, c.loop-i-test.true, c.len-i-end.ensures)) c.entry.ensures))
+    let here : waiting_here h o e.event ≡ None = sym c.waiting_by.ensures ∙ c.in_default.is in
+    goes-on (waiting h o) None h c.loop-i.i e (omega (arith, c.loop-i-test.true, c.len-i-end.ensures)) c.entry.ensures (waiting-first h o e (prefix c.loop-i.i h) None c.loop-i.invariant here)
 
 pub returns : goal.returns
-returns c = c.loop-i.invariant ∙ ap (λ (k : History). waiting c.args.past.now c.args.req k) (prefix-all c.args.past.now c.loop-i.i (omega (arith, c.loop-i-test.false, c.len-i-end.ensures)))
+returns c = sym c.loop-i.invariant ∙ ap (waiting c.args.past.now c.args.req) (prefix-all c.args.past.now c.loop-i.i (omega (arith, c.loop-i-test.false, c.len-i-end.ensures)))

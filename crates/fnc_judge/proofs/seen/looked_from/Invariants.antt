@@ -2,7 +2,7 @@ use Rattle.std.proofs.Common.{◌≡◌}
 use Rattle.fnc_journal.specs.Prefix.{prefix}
 use Rattle.fnc_journal.specs.Acts.{acts}
 use Rattle.fnc_judge.specs.Seen.{seen_of}
-use Rattle.fnc_judge.proofs.seen.looked_at.Given as goal
+use Rattle.fnc_judge.proofs.seen.looked_from.Given as goal
 
 -- what the entries so far say
 abbrev pub invariant-loop-i : goal.invariant-loop-i
