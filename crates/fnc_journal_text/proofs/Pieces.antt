@@ -7,7 +7,7 @@ use Rattle.fnc_outside.specs.Told.{Gains}
 use Rattle.fnc_outside.specs.Writes.{AppendsPart}
 use Rattle.fnc_outside.proofs.Telling.{gains-gains, gains-part}
 use Rattle.fnc_journal_text.specs.declared.printing.Piece.{Piece}
-use Rattle.fnc_journal_text.specs.Printed.{Climbs, Progress, piece_text, pieces_text}
+use Rattle.fnc_journal_text.specs.Printed.{Progress, piece_text, pieces_text}
 
 -- nothing was added
 pub gains-none : {A : Type 0} (held : Option (List A)) → Gains held held []
@@ -48,13 +48,6 @@ progress-end before now whole rest p e = subst (Gains before now) (sym (append-n
 pub on-err : {A E : Type 0} (r : Result A E) (P : Type 0) → P → OnErr r P
 on-err (Ok x) P p = tt
 on-err (Err e) P p = p
-
--- counts of faults over two calls
-pub climbs-counted : (before after : ℕ) → NeverFalls before after → Climbs before after
-climbs-counted before after n = (n.0, λ _. n.1)
-
-pub climbs-then : (before now after : ℕ) → Climbs before now → Climbs now after → Climbs before after
-climbs-then before now after first second = (omega (arith, first.0, second.0), λ k. second.1 (first.1 k))
 
 -- what is printed of the pieces from one on begins with that one
 pub pieces-next : (ps : List Piece) (i : ℕ) (p : Piece) → i < length ps → pieces_text (drop i ps) ≡ piece_text (get_or ps i p) ++ pieces_text (drop (i + 1) ps)

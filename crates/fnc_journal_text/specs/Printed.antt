@@ -6,10 +6,6 @@ use Rattle.fnc_outside.specs.Told.{Gains}
 use Rattle.fnc_journal.specs.Line.{escaped}
 use Rattle.fnc_journal_text.specs.declared.printing.Piece.{Piece}
 
--- a count of faults did not fall in a call, and is a count if it was one
-abbrev pub Climbs : ℕ → ℕ → Type 0
-Climbs before after = (before ≤ after) × (before < 2 ^ 64 → after < 2 ^ 64)
-
 -- what is printed of a piece
 abbrev pub piece_text : Piece → List ℕ
 piece_text (Piece.Word word) = word.now

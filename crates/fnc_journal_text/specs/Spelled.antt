@@ -216,19 +216,27 @@ abbrev pub start_words : Run → Req → Slot → Reg → Kind → ℕ → List 
 start_words run req slot reg kind attempt =
     codes "start" ∷ decimal run.0 ∷ decimal req.0 ∷ phase_word slot.phase ∷ decimal slot.level ∷ decimal slot.place ∷ decimal reg.0 ∷ kind_word kind ∷ decimal attempt ∷ []
 
+-- a request
+abbrev pub ask_words : Req → Req → List ℕ → Kind → List ℕ → ℕ → ℕ → Scope → List (List ℕ)
+ask_words req lead client kind target total coin scope =
+    codes "ask" ∷ decimal req.0 ∷ decimal lead.0 ∷ escaped client ∷ kind_word kind ∷ escaped target ∷ decimal total ∷ decimal coin ∷ scope_word scope ∷ []
+
 -- what a request is answered
 abbrev pub reply_words : Req → Answer → List (List ℕ)
 reply_words req answer = codes "reply" ∷ decimal req.0 ∷ answer_word answer ∷ answer_text answer ∷ []
 
+-- a registration that is gone
+abbrev pub gone_words : Reg → List (List ℕ)
+gone_words reg = codes "gone" ∷ decimal reg.0 ∷ []
+
 -- the words after the moment
 abbrev pub words_of : Event → List (List ℕ)
 words_of (Event.Device reg registration) = device_words reg registration
-words_of (Event.Gone reg) = codes "gone" ∷ decimal reg.0 ∷ []
+words_of (Event.Gone reg) = gone_words reg
 words_of (Event.Level target index devices) = level_words index target devices
 words_of (Event.LevelGone target index) = level_gone_words index target
 words_of (Event.Agent name description) = agent_words name description
-words_of (Event.Ask req lead client kind target total coin scope) =
-    codes "ask" ∷ decimal req.0 ∷ decimal lead.0 ∷ escaped client ∷ kind_word kind ∷ escaped target ∷ decimal total ∷ decimal coin ∷ scope_word scope ∷ []
+words_of (Event.Ask req lead client kind target total coin scope) = ask_words req lead client kind target total coin scope
 words_of (Event.Exit run exit is_listed) = exit_words run exit is_listed
 words_of Event.Pass = codes "pass" ∷ []
 words_of (Event.Confirm client target) = confirm_words client target

@@ -1,11 +1,10 @@
 // The words of a device, as they are printed.
 
-ghost use Rattle.std.specs.Prelude.{◌≡◌, OnOk, OnErr};
+ghost use Rattle.std.specs.Prelude.{◌≡◌, ◌≤◌, OnOk, OnErr};
 ghost use Rattle.fnc_outside.specs.Faults.{Rose};
 ghost use Rattle.fnc_outside.specs.Told.{Gains};
 ghost use Rattle.fnc_outside.specs.Writes.{AppendsPart};
 ghost use Rattle.fnc_journal_text.specs.Parts.{part_text};
-ghost use Rattle.fnc_journal_text.specs.Printed.{Climbs};
 ghost use Rattle.fnc_journal_text.specs.Spelled.{base_text, device_words, nodes_words, limits_words, spaced};
 
 use crate::parts::{Part, print_parts};
@@ -21,7 +20,7 @@ pub(crate) fn print_device<K: Sink>(
 ) -> Result<(), SinkFailed>
     ensures ok { OnOk result (Gains (K.held sink.old) (K.held sink.new) (spaced (device_words reg registration.now))) }
     ensures err { OnErr result (AppendsPart (K.held sink.old) (K.held sink.new) (spaced (device_words reg registration.now))) }
-    ensures count { Climbs (K.faults sink.old) (K.faults sink.new) }
+    ensures count { K.faults sink.old ≤ K.faults sink.new }
     ensures cause { OnErr result (Rose (K.faults sink.old) (K.faults sink.new)) }
 {
     print_nodes(reg, registration, sink)?;
@@ -36,7 +35,7 @@ fn print_nodes<K: Sink>(
 ) -> Result<(), SinkFailed>
     ensures ok { OnOk result (Gains (K.held sink.old) (K.held sink.new) (spaced (nodes_words reg registration.now))) }
     ensures err { OnErr result (AppendsPart (K.held sink.old) (K.held sink.new) (spaced (nodes_words reg registration.now))) }
-    ensures count { Climbs (K.faults sink.old) (K.faults sink.new) }
+    ensures count { K.faults sink.old ≤ K.faults sink.new }
     ensures cause { OnErr result (Rose (K.faults sink.old) (K.faults sink.new)) }
 {
     let definition = &registration.definition;
@@ -67,7 +66,7 @@ fn print_nodes<K: Sink>(
 fn print_limits<K: Sink>(definition: &Definition, sink: &mut K) -> Result<(), SinkFailed>
     ensures ok { OnOk result (Gains (K.held sink.old) (K.held sink.new) (spaced (limits_words definition.now))) }
     ensures err { OnErr result (AppendsPart (K.held sink.old) (K.held sink.new) (spaced (limits_words definition.now))) }
-    ensures count { Climbs (K.faults sink.old) (K.faults sink.new) }
+    ensures count { K.faults sink.old ≤ K.faults sink.new }
     ensures cause { OnErr result (Rose (K.faults sink.old) (K.faults sink.new)) }
 {
     print_parts(

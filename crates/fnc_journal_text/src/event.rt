@@ -1,11 +1,10 @@
 // The words of an event, as they are printed.
 
-ghost use Rattle.std.specs.Prelude.{OnOk, OnErr};
+ghost use Rattle.std.specs.Prelude.{◌≤◌, OnOk, OnErr};
 ghost use Rattle.fnc_outside.specs.Faults.{Rose};
 ghost use Rattle.fnc_outside.specs.Told.{Gains};
 ghost use Rattle.fnc_outside.specs.Writes.{AppendsPart};
-ghost use Rattle.fnc_journal_text.specs.Printed.{Climbs};
-ghost use Rattle.fnc_journal_text.specs.Spelled.{agent_words, confirm_words, exit_words, level_gone_words, level_words, refused_words, reply_words, spaced, start_words, words_of};
+ghost use Rattle.fnc_journal_text.specs.Spelled.{agent_words, ask_words, confirm_words, exit_words, gone_words, level_gone_words, level_words, refused_words, reply_words, spaced, start_words, words_of};
 
 use crate::definition::print_device;
 use crate::parts::{Part, print_parts};
@@ -14,7 +13,8 @@ use crate::words::{
     answer_piece, answer_word, exit_piece, flag_word, phase_word, target_text, target_word,
 };
 use fnc_journal::{
-    Answer, Cause, Description, Event, Exit, Kind, LevelTarget, Names, Reg, Req, Run, Slot, Text,
+    Answer, Cause, Description, Event, Exit, Kind, LevelTarget, Names, Reg, Req, Run, Scope, Slot,
+    Text,
 };
 use fnc_outside::{Sink, SinkFailed};
 
@@ -22,15 +22,12 @@ use fnc_outside::{Sink, SinkFailed};
 pub(crate) fn print_event<K: Sink>(event: &Event, sink: &mut K) -> Result<(), SinkFailed>
     ensures ok { OnOk result (Gains (K.held sink.old) (K.held sink.new) (spaced (words_of event.now))) }
     ensures err { OnErr result (AppendsPart (K.held sink.old) (K.held sink.new) (spaced (words_of event.now))) }
-    ensures count { Climbs (K.faults sink.old) (K.faults sink.new) }
+    ensures count { K.faults sink.old ≤ K.faults sink.new }
     ensures cause { OnErr result (Rose (K.faults sink.old) (K.faults sink.new)) }
 {
     match event {
         Event::Device { reg, registration } => print_device(*reg, registration, sink),
-        Event::Gone { reg } => print_pieces(
-            &[Piece::Word(" gone "), Piece::Number(u64::from(reg.0))],
-            sink,
-        ),
+        Event::Gone { reg } => print_gone(*reg, sink),
         Event::Level {
             target,
             index,
@@ -47,26 +44,8 @@ pub(crate) fn print_event<K: Sink>(event: &Event, sink: &mut K) -> Result<(), Si
             total,
             coin,
             scope,
-        } => print_parts(
-            &[
-                Part::Word(" ask "),
-                Part::Number(u64::from(req.0)),
-                Part::Word(" "),
-                Part::Number(u64::from(lead.0)),
-                Part::Word(" "),
-                Part::Name(client.as_str()),
-                Part::Word(" "),
-                Part::Word(kind.word()),
-                Part::Word(" "),
-                Part::Name(target.as_str()),
-                Part::Word(" "),
-                Part::Number(*total),
-                Part::Word(" "),
-                Part::Number(*coin),
-                Part::Word(" "),
-                Part::Scope(*scope),
-            ],
-            sink,
+        } => print_ask(
+            *req, *lead, client, *kind, target, *total, *coin, *scope, sink,
         ),
         Event::Exit { run, exit, listed } => print_exit(*run, *exit, *listed, sink),
         Event::Pass => print_pieces(&[Piece::Word(" pass")], sink),
@@ -84,6 +63,59 @@ pub(crate) fn print_event<K: Sink>(event: &Event, sink: &mut K) -> Result<(), Si
     }
 }
 
+/// Prints a registration that is gone.
+fn print_gone<K: Sink>(reg: Reg, sink: &mut K) -> Result<(), SinkFailed>
+    ensures ok { OnOk result (Gains (K.held sink.old) (K.held sink.new) (spaced (gone_words reg))) }
+    ensures err { OnErr result (AppendsPart (K.held sink.old) (K.held sink.new) (spaced (gone_words reg))) }
+    ensures count { K.faults sink.old ≤ K.faults sink.new }
+    ensures cause { OnErr result (Rose (K.faults sink.old) (K.faults sink.new)) }
+{
+    print_pieces(
+        &[Piece::Word(" gone "), Piece::Number(u64::from(reg.0))],
+        sink,
+    )
+}
+
+/// Prints a request.
+fn print_ask<'a, K: Sink>(
+    req: Req,
+    lead: Req,
+    client: &'a Text,
+    kind: Kind,
+    target: &'a Text,
+    total: u64,
+    coin: u64,
+    scope: Scope,
+    sink: &mut K,
+) -> Result<(), SinkFailed>
+    ensures ok { OnOk result (Gains (K.held sink.old) (K.held sink.new) (spaced (ask_words req lead client.now kind target.now total coin scope))) }
+    ensures err { OnErr result (AppendsPart (K.held sink.old) (K.held sink.new) (spaced (ask_words req lead client.now kind target.now total coin scope))) }
+    ensures count { K.faults sink.old ≤ K.faults sink.new }
+    ensures cause { OnErr result (Rose (K.faults sink.old) (K.faults sink.new)) }
+{
+    print_parts(
+        &[
+            Part::Word(" ask "),
+            Part::Number(u64::from(req.0)),
+            Part::Word(" "),
+            Part::Number(u64::from(lead.0)),
+            Part::Word(" "),
+            Part::Name(client.as_str()),
+            Part::Word(" "),
+            Part::Word(kind.word()),
+            Part::Word(" "),
+            Part::Name(target.as_str()),
+            Part::Word(" "),
+            Part::Number(total),
+            Part::Word(" "),
+            Part::Number(coin),
+            Part::Word(" "),
+            Part::Scope(scope),
+        ],
+        sink,
+    )
+}
+
 /// Prints a level and its devices.
 fn print_level<'a, K: Sink>(
     index: u8,
@@ -93,7 +125,7 @@ fn print_level<'a, K: Sink>(
 ) -> Result<(), SinkFailed>
     ensures ok { OnOk result (Gains (K.held sink.old) (K.held sink.new) (spaced (level_words index target.now devices.now))) }
     ensures err { OnErr result (AppendsPart (K.held sink.old) (K.held sink.new) (spaced (level_words index target.now devices.now))) }
-    ensures count { Climbs (K.faults sink.old) (K.faults sink.new) }
+    ensures count { K.faults sink.old ≤ K.faults sink.new }
     ensures cause { OnErr result (Rose (K.faults sink.old) (K.faults sink.new)) }
 {
     print_parts(
@@ -119,7 +151,7 @@ fn print_level_gone<K: Sink>(
 ) -> Result<(), SinkFailed>
     ensures ok { OnOk result (Gains (K.held sink.old) (K.held sink.new) (spaced (level_gone_words index target.now))) }
     ensures err { OnErr result (AppendsPart (K.held sink.old) (K.held sink.new) (spaced (level_gone_words index target.now))) }
-    ensures count { Climbs (K.faults sink.old) (K.faults sink.new) }
+    ensures count { K.faults sink.old ≤ K.faults sink.new }
     ensures cause { OnErr result (Rose (K.faults sink.old) (K.faults sink.new)) }
 {
     print_parts(
@@ -143,7 +175,7 @@ fn print_agent<'a, K: Sink>(
 ) -> Result<(), SinkFailed>
     ensures ok { OnOk result (Gains (K.held sink.old) (K.held sink.new) (spaced (agent_words name.now description.now))) }
     ensures err { OnErr result (AppendsPart (K.held sink.old) (K.held sink.new) (spaced (agent_words name.now description.now))) }
-    ensures count { Climbs (K.faults sink.old) (K.faults sink.new) }
+    ensures count { K.faults sink.old ≤ K.faults sink.new }
     ensures cause { OnErr result (Rose (K.faults sink.old) (K.faults sink.new)) }
 {
     print_parts(
@@ -164,7 +196,7 @@ fn print_agent<'a, K: Sink>(
 fn print_exit<K: Sink>(run: Run, exit: Exit, listed: bool, sink: &mut K) -> Result<(), SinkFailed>
     ensures ok { OnOk result (Gains (K.held sink.old) (K.held sink.new) (spaced (exit_words run exit listed))) }
     ensures err { OnErr result (AppendsPart (K.held sink.old) (K.held sink.new) (spaced (exit_words run exit listed))) }
-    ensures count { Climbs (K.faults sink.old) (K.faults sink.new) }
+    ensures count { K.faults sink.old ≤ K.faults sink.new }
     ensures cause { OnErr result (Rose (K.faults sink.old) (K.faults sink.new)) }
 {
     print_pieces(
@@ -188,7 +220,7 @@ fn print_confirm<'a, K: Sink>(
 ) -> Result<(), SinkFailed>
     ensures ok { OnOk result (Gains (K.held sink.old) (K.held sink.new) (spaced (confirm_words client.now target.now))) }
     ensures err { OnErr result (AppendsPart (K.held sink.old) (K.held sink.new) (spaced (confirm_words client.now target.now))) }
-    ensures count { Climbs (K.faults sink.old) (K.faults sink.new) }
+    ensures count { K.faults sink.old ≤ K.faults sink.new }
     ensures cause { OnErr result (Rose (K.faults sink.old) (K.faults sink.new)) }
 {
     print_pieces(
@@ -206,7 +238,7 @@ fn print_confirm<'a, K: Sink>(
 fn print_refused<K: Sink>(line: u32, cause: Cause, sink: &mut K) -> Result<(), SinkFailed>
     ensures ok { OnOk result (Gains (K.held sink.old) (K.held sink.new) (spaced (refused_words line cause))) }
     ensures err { OnErr result (AppendsPart (K.held sink.old) (K.held sink.new) (spaced (refused_words line cause))) }
-    ensures count { Climbs (K.faults sink.old) (K.faults sink.new) }
+    ensures count { K.faults sink.old ≤ K.faults sink.new }
     ensures cause { OnErr result (Rose (K.faults sink.old) (K.faults sink.new)) }
 {
     print_pieces(
@@ -232,7 +264,7 @@ fn print_start<K: Sink>(
 ) -> Result<(), SinkFailed>
     ensures ok { OnOk result (Gains (K.held sink.old) (K.held sink.new) (spaced (start_words run req slot reg kind attempt))) }
     ensures err { OnErr result (AppendsPart (K.held sink.old) (K.held sink.new) (spaced (start_words run req slot reg kind attempt))) }
-    ensures count { Climbs (K.faults sink.old) (K.faults sink.new) }
+    ensures count { K.faults sink.old ≤ K.faults sink.new }
     ensures cause { OnErr result (Rose (K.faults sink.old) (K.faults sink.new)) }
 {
     print_pieces(
@@ -262,7 +294,7 @@ fn print_start<K: Sink>(
 fn print_reply<K: Sink>(req: Req, answer: Answer, sink: &mut K) -> Result<(), SinkFailed>
     ensures ok { OnOk result (Gains (K.held sink.old) (K.held sink.new) (spaced (reply_words req answer))) }
     ensures err { OnErr result (AppendsPart (K.held sink.old) (K.held sink.new) (spaced (reply_words req answer))) }
-    ensures count { Climbs (K.faults sink.old) (K.faults sink.new) }
+    ensures count { K.faults sink.old ≤ K.faults sink.new }
     ensures cause { OnErr result (Rose (K.faults sink.old) (K.faults sink.new)) }
 {
     print_pieces(

@@ -1,10 +1,9 @@
 // Lists in a line: the items one after another, with what separates them.
 
-ghost use Rattle.std.specs.Prelude.{OnOk, OnErr};
+ghost use Rattle.std.specs.Prelude.{◌≤◌, OnOk, OnErr};
 ghost use Rattle.fnc_outside.specs.Faults.{Rose};
 ghost use Rattle.fnc_outside.specs.Told.{Gains};
 ghost use Rattle.fnc_outside.specs.Writes.{AppendsPart};
-ghost use Rattle.fnc_journal_text.specs.Printed.{Climbs};
 ghost use Rattle.fnc_journal_text.specs.Spelled.{names_text, map_text, delays_text, parameters_text, own_text};
 
 use crate::printing::{Piece, print_pieces};
@@ -16,7 +15,7 @@ use fnc_outside::{Sink, SinkFailed};
 pub(crate) fn print_names<K: Sink>(names: &[Text], sink: &mut K) -> Result<(), SinkFailed>
     ensures ok { OnOk result (Gains (K.held sink.old) (K.held sink.new) (names_text names.now)) }
     ensures err { OnErr result (AppendsPart (K.held sink.old) (K.held sink.new) (names_text names.now)) }
-    ensures count { Climbs (K.faults sink.old) (K.faults sink.new) }
+    ensures count { K.faults sink.old ≤ K.faults sink.new }
     ensures cause { OnErr result (Rose (K.faults sink.old) (K.faults sink.new)) }
 {
     let mut before = "";
@@ -31,7 +30,7 @@ pub(crate) fn print_names<K: Sink>(names: &[Text], sink: &mut K) -> Result<(), S
 pub(crate) fn print_map<K: Sink>(pairs: &[Pair], sink: &mut K) -> Result<(), SinkFailed>
     ensures ok { OnOk result (Gains (K.held sink.old) (K.held sink.new) (map_text pairs.now)) }
     ensures err { OnErr result (AppendsPart (K.held sink.old) (K.held sink.new) (map_text pairs.now)) }
-    ensures count { Climbs (K.faults sink.old) (K.faults sink.new) }
+    ensures count { K.faults sink.old ≤ K.faults sink.new }
     ensures cause { OnErr result (Rose (K.faults sink.old) (K.faults sink.new)) }
 {
     let mut before = "";
@@ -54,7 +53,7 @@ pub(crate) fn print_map<K: Sink>(pairs: &[Pair], sink: &mut K) -> Result<(), Sin
 pub(crate) fn print_delays<K: Sink>(delays: &[Delay], sink: &mut K) -> Result<(), SinkFailed>
     ensures ok { OnOk result (Gains (K.held sink.old) (K.held sink.new) (delays_text delays.now)) }
     ensures err { OnErr result (AppendsPart (K.held sink.old) (K.held sink.new) (delays_text delays.now)) }
-    ensures count { Climbs (K.faults sink.old) (K.faults sink.new) }
+    ensures count { K.faults sink.old ≤ K.faults sink.new }
     ensures cause { OnErr result (Rose (K.faults sink.old) (K.faults sink.new)) }
 {
     let mut before = "";
@@ -80,7 +79,7 @@ pub(crate) fn print_parameters<K: Sink>(
 ) -> Result<(), SinkFailed>
     ensures ok { OnOk result (Gains (K.held sink.old) (K.held sink.new) (parameters_text parameters.now)) }
     ensures err { OnErr result (AppendsPart (K.held sink.old) (K.held sink.new) (parameters_text parameters.now)) }
-    ensures count { Climbs (K.faults sink.old) (K.faults sink.new) }
+    ensures count { K.faults sink.old ≤ K.faults sink.new }
     ensures cause { OnErr result (Rose (K.faults sink.old) (K.faults sink.new)) }
 {
     for parameter in parameters {
@@ -101,7 +100,7 @@ pub(crate) fn print_parameters<K: Sink>(
 pub(crate) fn print_own<K: Sink>(options: &[Pair], sink: &mut K) -> Result<(), SinkFailed>
     ensures ok { OnOk result (Gains (K.held sink.old) (K.held sink.new) (own_text options.now)) }
     ensures err { OnErr result (AppendsPart (K.held sink.old) (K.held sink.new) (own_text options.now)) }
-    ensures count { Climbs (K.faults sink.old) (K.faults sink.new) }
+    ensures count { K.faults sink.old ≤ K.faults sink.new }
     ensures cause { OnErr result (Rose (K.faults sink.old) (K.faults sink.new)) }
 {
     for option in options {

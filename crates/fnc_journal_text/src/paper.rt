@@ -1,12 +1,11 @@
 // What is printed of a journal on paper: the line of each entry.
 
-ghost use Rattle.std.specs.Prelude.{◌≡◌, ◌<◌, ◌+◌, ℕ, List, [], Option, OnOk, OnErr, length};
+ghost use Rattle.std.specs.Prelude.{◌≡◌, ◌≤◌, ◌<◌, ◌+◌, ℕ, List, [], Option, OnOk, OnErr, length};
 ghost use Rattle.fnc_outside.specs.Faults.{Rose};
 ghost use Rattle.fnc_outside.specs.Told.{Gains};
 ghost use Rattle.fnc_outside.specs.Writes.{AppendsPart};
 ghost use Rattle.fnc_journal.specs.Prefix.{prefix};
 ghost use Rattle.fnc_journal_text.specs.Paper as Paper;
-ghost use Rattle.fnc_journal_text.specs.Printed.{Climbs};
 ghost use Rattle.fnc_journal_text.specs.Spelled.{line_of};
 
 use crate::event::print_event;
@@ -26,7 +25,7 @@ pub fn head_line() -> &'static str
 pub fn print_head<K: Sink>(form: Form, sink: &mut K) -> Result<(), SinkFailed>
     ensures ok { OnOk result (Gains (K.held sink.old) (K.held sink.new) (Paper.text [] form)) }
     ensures err { OnErr result (AppendsPart (K.held sink.old) (K.held sink.new) (Paper.text [] form)) }
-    ensures count { Climbs (K.faults sink.old) (K.faults sink.new) }
+    ensures count { K.faults sink.old ≤ K.faults sink.new }
     ensures cause { OnErr result (Rose (K.faults sink.old) (K.faults sink.new)) }
 {
     match form {
@@ -39,7 +38,7 @@ pub fn print_head<K: Sink>(form: Form, sink: &mut K) -> Result<(), SinkFailed>
 pub(crate) fn print_spelling<K: Sink>(entry: &Entry, sink: &mut K) -> Result<(), SinkFailed>
     ensures ok { OnOk result (Gains (K.held sink.old) (K.held sink.new) (line_of entry.now)) }
     ensures err { OnErr result (AppendsPart (K.held sink.old) (K.held sink.new) (line_of entry.now)) }
-    ensures count { Climbs (K.faults sink.old) (K.faults sink.new) }
+    ensures count { K.faults sink.old ≤ K.faults sink.new }
     ensures cause { OnErr result (Rose (K.faults sink.old) (K.faults sink.new)) }
 {
     print_pieces(&[Piece::Number(entry.moment)], sink)?;
@@ -50,7 +49,7 @@ pub(crate) fn print_spelling<K: Sink>(entry: &Entry, sink: &mut K) -> Result<(),
 pub fn print_one<K: Sink>(entry: &Entry, sink: &mut K) -> Result<(), SinkFailed>
     ensures ok { OnOk result (Gains (K.held sink.old) (K.held sink.new) (Paper.printed entry.now)) }
     ensures err { OnErr result (AppendsPart (K.held sink.old) (K.held sink.new) (Paper.printed entry.now)) }
-    ensures count { Climbs (K.faults sink.old) (K.faults sink.new) }
+    ensures count { K.faults sink.old ≤ K.faults sink.new }
     ensures cause { OnErr result (Rose (K.faults sink.old) (K.faults sink.new)) }
 {
     print_spelling(entry, sink)?;
@@ -65,7 +64,7 @@ pub fn print_entry<K: Sink>(journal: &Journal, index: u32, sink: &mut K) -> Resu
         → OnOk result (Gains start (K.held sink.new) (Paper.journal_text (prefix (index + 1) journal.now.history))) }
     ensures ok { OnOk result (Gains (K.held sink.old) (K.held sink.new) (Paper.line_at index journal.now.history)) }
     ensures err { OnErr result (AppendsPart (K.held sink.old) (K.held sink.new) (Paper.line_at index journal.now.history)) }
-    ensures count { Climbs (K.faults sink.old) (K.faults sink.new) }
+    ensures count { K.faults sink.old ≤ K.faults sink.new }
     ensures cause { OnErr result (Rose (K.faults sink.old) (K.faults sink.new)) }
 {
     print_one(journal.entry(index), sink)

@@ -1,10 +1,9 @@
 // Lines in parts: pieces, and lists between them.
 
-ghost use Rattle.std.specs.Prelude.{OnOk, OnErr};
+ghost use Rattle.std.specs.Prelude.{◌≤◌, OnOk, OnErr};
 ghost use Rattle.fnc_outside.specs.Faults.{Rose};
 ghost use Rattle.fnc_outside.specs.Told.{Gains};
 ghost use Rattle.fnc_outside.specs.Writes.{AppendsPart};
-ghost use Rattle.fnc_journal_text.specs.Printed.{Climbs};
 ghost use Rattle.fnc_journal_text.specs.Parts.{part_text, parts_text};
 ghost use Rattle.fnc_journal_text.specs.Spelled.{allowed_text};
 
@@ -38,7 +37,7 @@ pub(crate) enum Part<'a> {
 fn print_allowed<K: Sink>(allowed: &Allowed, sink: &mut K) -> Result<(), SinkFailed>
     ensures ok { OnOk result (Gains (K.held sink.old) (K.held sink.new) (allowed_text allowed.now)) }
     ensures err { OnErr result (AppendsPart (K.held sink.old) (K.held sink.new) (allowed_text allowed.now)) }
-    ensures count { Climbs (K.faults sink.old) (K.faults sink.new) }
+    ensures count { K.faults sink.old ≤ K.faults sink.new }
     ensures cause { OnErr result (Rose (K.faults sink.old) (K.faults sink.new)) }
 {
     print_pieces(
@@ -57,7 +56,7 @@ fn print_allowed<K: Sink>(allowed: &Allowed, sink: &mut K) -> Result<(), SinkFai
 fn print_part<K: Sink>(part: &Part<'_>, sink: &mut K) -> Result<(), SinkFailed>
     ensures ok { OnOk result (Gains (K.held sink.old) (K.held sink.new) (part_text part.now)) }
     ensures err { OnErr result (AppendsPart (K.held sink.old) (K.held sink.new) (part_text part.now)) }
-    ensures count { Climbs (K.faults sink.old) (K.faults sink.new) }
+    ensures count { K.faults sink.old ≤ K.faults sink.new }
     ensures cause { OnErr result (Rose (K.faults sink.old) (K.faults sink.new)) }
 {
     match part {
@@ -82,7 +81,7 @@ fn print_part<K: Sink>(part: &Part<'_>, sink: &mut K) -> Result<(), SinkFailed>
 pub(crate) fn print_parts<K: Sink>(parts: &[Part<'_>], sink: &mut K) -> Result<(), SinkFailed>
     ensures ok { OnOk result (Gains (K.held sink.old) (K.held sink.new) (parts_text parts.now)) }
     ensures err { OnErr result (AppendsPart (K.held sink.old) (K.held sink.new) (parts_text parts.now)) }
-    ensures count { Climbs (K.faults sink.old) (K.faults sink.new) }
+    ensures count { K.faults sink.old ≤ K.faults sink.new }
     ensures cause { OnErr result (Rose (K.faults sink.old) (K.faults sink.new)) }
 {
     for part in parts {

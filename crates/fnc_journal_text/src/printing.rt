@@ -1,11 +1,11 @@
 // Lines in pieces: words, numbers and escaped names, written one after another.
 
-ghost use Rattle.std.specs.Prelude.{OnOk, OnErr};
+ghost use Rattle.std.specs.Prelude.{◌≤◌, OnOk, OnErr};
 ghost use Rattle.fnc_outside.specs.Faults.{Rose};
 ghost use Rattle.fnc_outside.specs.Told.{Gains};
 ghost use Rattle.fnc_outside.specs.Writes.{AppendsPart};
 ghost use Rattle.fnc_journal.specs.Line as Line;
-ghost use Rattle.fnc_journal_text.specs.Printed.{Climbs, piece_text, pieces_text};
+ghost use Rattle.fnc_journal_text.specs.Printed.{piece_text, pieces_text};
 
 use fnc_outside::{Sink, SinkFailed};
 use itoa::Buffer;
@@ -35,7 +35,7 @@ pub enum Piece<'a> {
 fn print_name<K: Sink>(name: &[u8], sink: &mut K) -> Result<(), SinkFailed>
     ensures ok { OnOk result (Gains (K.held sink.old) (K.held sink.new) (Line.escaped name.now)) }
     ensures err { OnErr result (AppendsPart (K.held sink.old) (K.held sink.new) (Line.escaped name.now)) }
-    ensures count { Climbs (K.faults sink.old) (K.faults sink.new) }
+    ensures count { K.faults sink.old ≤ K.faults sink.new }
     ensures cause { OnErr result (Rose (K.faults sink.old) (K.faults sink.new)) }
 {
     for part in percent_encode(name, ESCAPED) {
@@ -48,7 +48,7 @@ fn print_name<K: Sink>(name: &[u8], sink: &mut K) -> Result<(), SinkFailed>
 pub(crate) fn print_piece<K: Sink>(piece: &Piece<'_>, sink: &mut K) -> Result<(), SinkFailed>
     ensures ok { OnOk result (Gains (K.held sink.old) (K.held sink.new) (piece_text piece.now)) }
     ensures err { OnErr result (AppendsPart (K.held sink.old) (K.held sink.new) (piece_text piece.now)) }
-    ensures count { Climbs (K.faults sink.old) (K.faults sink.new) }
+    ensures count { K.faults sink.old ≤ K.faults sink.new }
     ensures cause { OnErr result (Rose (K.faults sink.old) (K.faults sink.new)) }
 {
     match piece {
@@ -63,7 +63,7 @@ pub(crate) fn print_piece<K: Sink>(piece: &Piece<'_>, sink: &mut K) -> Result<()
 pub fn print_pieces<K: Sink>(pieces: &[Piece<'_>], sink: &mut K) -> Result<(), SinkFailed>
     ensures ok { OnOk result (Gains (K.held sink.old) (K.held sink.new) (pieces_text pieces.now)) }
     ensures err { OnErr result (AppendsPart (K.held sink.old) (K.held sink.new) (pieces_text pieces.now)) }
-    ensures count { Climbs (K.faults sink.old) (K.faults sink.new) }
+    ensures count { K.faults sink.old ≤ K.faults sink.new }
     ensures cause { OnErr result (Rose (K.faults sink.old) (K.faults sink.new)) }
 {
     for piece in pieces {

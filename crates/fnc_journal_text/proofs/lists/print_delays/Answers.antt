@@ -1,8 +1,8 @@
 use lib.Utf8.{encode}
-use Rattle.std.proofs.Common.{[], ◌∷◌, codes, refl}
+use Rattle.std.proofs.Common.{[], ◌∷◌, codes, refl, arith}
 use Rattle.fnc_journal_text.specs.Spelled.{delay_text}
 use Rattle.fnc_journal_text.proofs.Listing.{listed-next, delay-piece}
-use Rattle.fnc_journal_text.proofs.Pieces.{climbs-then, on-err, progress-failed, progress-more}
+use Rattle.fnc_journal_text.proofs.Pieces.{on-err, progress-failed, progress-more}
 use Rattle.fnc_journal_text.proofs.lists.print_delays.Goals as goal
 
 pub returns-in_err-print_pieces-clause-err : goal.returns-in_err-print_pieces-clause-err
@@ -17,5 +17,5 @@ loop-delay-preserved g c =
     record {
       progress = progress-more _ _ _ _ _ _ _ c.loop-delay.invariant.progress next c.in_ok-print_pieces.ensures.ok;
       is_text = (59 ∷ [], (refl, refl));
-      count = climbs-then _ _ _ c.loop-delay.invariant.count c.in_ok-print_pieces.ensures.count;
+      count = omega (arith, c.loop-delay.invariant.count, c.in_ok-print_pieces.ensures.count);
     }

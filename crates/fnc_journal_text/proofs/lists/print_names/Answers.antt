@@ -1,8 +1,8 @@
 use lib.Utf8.{encode}
-use Rattle.std.proofs.Common.{[], ◌∷◌, codes, refl}
+use Rattle.std.proofs.Common.{[], ◌∷◌, codes, refl, arith}
 use Rattle.fnc_journal.specs.Line.{escaped}
 use Rattle.fnc_journal_text.proofs.Listing.{listed-next, name-piece}
-use Rattle.fnc_journal_text.proofs.Pieces.{climbs-then, on-err, progress-failed, progress-more}
+use Rattle.fnc_journal_text.proofs.Pieces.{on-err, progress-failed, progress-more}
 use Rattle.fnc_journal_text.proofs.lists.print_names.Goals as goal
 
 pub returns-in_err-print_pieces-clause-err : goal.returns-in_err-print_pieces-clause-err
@@ -17,5 +17,5 @@ loop-name-preserved g c =
     record {
       progress = progress-more _ _ _ _ _ _ _ c.loop-name.invariant.progress next c.in_ok-print_pieces.ensures.ok;
       is_text = (44 ∷ [], (refl, refl));
-      count = climbs-then _ _ _ c.loop-name.invariant.count c.in_ok-print_pieces.ensures.count;
+      count = omega (arith, c.loop-name.invariant.count, c.in_ok-print_pieces.ensures.count);
     }

@@ -1,5 +1,5 @@
-use Rattle.std.proofs.Common.{drop}
-use Rattle.fnc_journal_text.specs.Printed.{Climbs, Progress}
+use Rattle.std.proofs.Common.{◌≤◌, drop}
+use Rattle.fnc_journal_text.specs.Printed.{Progress}
 use Rattle.fnc_journal_text.specs.Spelled.{own_text}
 use Rattle.fnc_journal_text.proofs.lists.print_own.Given as goal
 
@@ -7,5 +7,5 @@ use Rattle.fnc_journal_text.proofs.lists.print_own.Given as goal
 abbrev pub invariant-loop-option : goal.invariant-loop-option
 invariant-loop-option g l = record {
   progress : Progress (g.K.Sink.held l.fn.sink) (g.K.Sink.held l.sink) (own_text l.options) (own_text (drop l.option-index l.options));
-  count : Climbs (g.K.Sink.faults l.fn.sink) (g.K.Sink.faults l.sink);
+  count : g.K.Sink.faults l.fn.sink ≤ g.K.Sink.faults l.sink;
 }

@@ -1,5 +1,5 @@
-use Rattle.std.proofs.Common.{drop}
-use Rattle.fnc_journal_text.specs.Printed.{Climbs, Progress}
+use Rattle.std.proofs.Common.{◌≤◌, drop}
+use Rattle.fnc_journal_text.specs.Printed.{Progress}
 use Rattle.fnc_journal_text.specs.Spelled.{parameters_text}
 use Rattle.fnc_journal_text.proofs.lists.print_parameters.Given as goal
 
@@ -7,5 +7,5 @@ use Rattle.fnc_journal_text.proofs.lists.print_parameters.Given as goal
 abbrev pub invariant-loop-parameter : goal.invariant-loop-parameter
 invariant-loop-parameter g l = record {
   progress : Progress (g.K.Sink.held l.fn.sink) (g.K.Sink.held l.sink) (parameters_text l.parameters) (parameters_text (drop l.parameter-index l.parameters));
-  count : Climbs (g.K.Sink.faults l.fn.sink) (g.K.Sink.faults l.sink);
+  count : g.K.Sink.faults l.fn.sink ≤ g.K.Sink.faults l.sink;
 }

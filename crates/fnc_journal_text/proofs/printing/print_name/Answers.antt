@@ -5,7 +5,7 @@ use Rattle.fnc_outside.specs.Writes.{AppendsPart}
 use Rattle.percent_encoding.specs.Iter.{encoded_text}
 use Rattle.percent_encoding.proofs.PercentLemmas.{IsByte}
 use Rattle.fnc_journal_text.proofs.Escapes.{name_escaped}
-use Rattle.fnc_journal_text.proofs.Pieces.{climbs-counted, climbs-then, on-err, progress-end, progress-failed, progress-more}
+use Rattle.fnc_journal_text.proofs.Pieces.{on-err, progress-end, progress-failed, progress-more}
 use Rattle.fnc_journal_text.proofs.printing.print_name.Goals as goal
 
 pub loop-part-preserved : goal.loop-part-preserved
@@ -13,7 +13,7 @@ loop-part-preserved g c = record {
   progress =
       progress-more _ _ _ _ _ _ _ c.loop-part.invariant.progress c.in-Some.ensures.steps
       (subst (Gains (g.K.Sink.held c.loop-part.sink) (g.K.Sink.held c.write.new.self)) c.as_bytes.ensures.value c.in_ok-write.ensures.ok);
-  count = climbs-then _ _ _ c.loop-part.invariant.count (climbs-counted _ _ c.in_ok-write.ensures.count);
+  count = omega (arith, c.loop-part.invariant.count, c.in_ok-write.ensures.count.0);
 }
 
 pub returns-in_err-write-clause-err : goal.returns-in_err-write-clause-err

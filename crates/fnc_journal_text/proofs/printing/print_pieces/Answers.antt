@@ -1,4 +1,5 @@
-use Rattle.fnc_journal_text.proofs.Pieces.{climbs-then, on-err, pieces-next, progress-failed, progress-more}
+use Rattle.std.proofs.Common.{arith}
+use Rattle.fnc_journal_text.proofs.Pieces.{on-err, pieces-next, progress-failed, progress-more}
 use Rattle.fnc_journal_text.proofs.printing.print_pieces.Goals as goal
 
 pub returns-in_err-print_piece-clause-err : goal.returns-in_err-print_piece-clause-err
@@ -12,5 +13,5 @@ loop-piece-preserved g c = record {
   progress =
       progress-more _ _ _ _ _ _ _ c.loop-piece.invariant.progress (pieces-next c.args.pieces.now c.loop-piece.piece-index _ c.loop-piece-test.true)
       c.in_ok-print_piece.ensures.ok;
-  count = climbs-then _ _ _ c.loop-piece.invariant.count c.in_ok-print_piece.ensures.count;
+  count = omega (arith, c.loop-piece.invariant.count, c.in_ok-print_piece.ensures.count);
 }
