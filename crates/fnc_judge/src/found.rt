@@ -45,22 +45,21 @@ impl Model for Started {
     ghost view = { λ s. record { req = s.req; slot = s.slot; reg = s.reg; kind = s.kind } };
 }
 
-fn registration_after<'a>(
-    earlier: Option<&'a Registration>,
-    event: &'a Event,
-    reg: u32,
-) -> Option<&'a Registration>
-    ensures { option_copied result ≡ or_here (option_copied earlier.entry) (Found.registration_here reg event.now) }
+fn registration_here(event: &Event, reg: u32) -> Option<&Registration>
+    ensures { option_copied result ≡ Found.registration_here reg event.now }
 {
-    match (earlier, event) {
-        (
-            None,
-            Event::Device {
-                reg: number,
-                registration,
-            },
-        ) if reg == number.0 => Some(registration),
-        _ => earlier,
+    match event {
+        Event::Device {
+            reg: number,
+            registration,
+        } => {
+            if reg == number.0 {
+                Some(registration)
+            } else {
+                None
+            }
+        }
+        _ => None,
     }
 }
 
@@ -68,11 +67,12 @@ fn registration_after<'a>(
 pub(crate) fn registration<'a>(past: &Past<'a>, reg: u32) -> Option<&'a Registration>
     ensures { option_copied result ≡ Found.registration reg past.now }
 {
-    let mut found = None;
     for i in 0..past.len() {
-        found = registration_after(found, &past.entry(i).event, reg);
+        if let Some(registration) = registration_here(&past.entry(i).event, reg) {
+            return Some(registration);
+        }
     }
-    found
+    None
 }
 
 fn asked_here<'a>(entry: &'a Entry, before: Past<'a>, req: u32) -> Option<Asked<'a>>
@@ -120,19 +120,16 @@ pub(crate) fn request<'a>(past: &Past<'a>, req: u32) -> Option<Asked<'a>>
     None
 }
 
-fn lead_after(earlier: Option<u32>, event: &Event, req: u32) -> Option<u32>
-    ensures { result ≡ or_here earlier (lead_here req event.now) }
+fn lead_in(event: &Event, req: u32) -> Option<u32>
+    ensures { result ≡ lead_here req event.now }
 {
-    match (earlier, event) {
-        (
-            None,
-            Event::Ask {
-                req: number,
-                lead,
-                ..
-            },
-        ) if req == number.0 => Some(lead.0),
-        _ => earlier,
+    match event {
+        Event::Ask {
+            req: number,
+            lead,
+            ..
+        } => { if req == number.0 { Some(lead.0) } else { None } }
+        _ => None,
     }
 }
 
@@ -140,11 +137,12 @@ fn lead_after(earlier: Option<u32>, event: &Event, req: u32) -> Option<u32>
 pub(crate) fn lead(past: &Past<'_>, req: u32) -> Option<u32>
     ensures { result ≡ lead_of req past.now }
 {
-    let mut found = None;
     for i in 0..past.len() {
-        found = lead_after(found, &past.entry(i).event, req);
+        if let Some(lead) = lead_in(&past.entry(i).event, req) {
+            return Some(lead);
+        }
     }
-    found
+    None
 }
 
 fn started_here(event: &Event, run: u32) -> Option<Started>
@@ -174,24 +172,16 @@ fn started_here(event: &Event, run: u32) -> Option<Started>
     }
 }
 
-fn started_after(earlier: Option<Started>, event: &Event, run: u32) -> Option<Started>
-    ensures { result ≡ or_here earlier (Found.started_here run event.now) }
-{
-    match earlier {
-        Some(start) => Some(start),
-        None => started_here(event, run),
-    }
-}
-
 /// The start of a run.
 pub(crate) fn start_of(past: &Past<'_>, run: u32) -> Option<Started>
     ensures { result ≡ Found.started run past.now }
 {
-    let mut found = None;
     for i in 0..past.len() {
-        found = started_after(found, &past.entry(i).event, run);
+        if let Some(start) = started_here(&past.entry(i).event, run) {
+            return Some(start);
+        }
     }
-    found
+    None
 }
 
 fn is_exit_of(event: &Event, run: u32) -> bool
@@ -203,21 +193,16 @@ fn is_exit_of(event: &Event, run: u32) -> bool
     }
 }
 
-fn is_exit_after(earlier: bool, event: &Event, run: u32) -> bool
-    ensures { result ≡ (Found.is_exit_of run event.now || earlier) }
-{
-    is_exit_of(event, run) || earlier
-}
-
 /// Whether a run has had its exit.
 pub(crate) fn has_exit(past: &Past<'_>, run: u32) -> bool
     ensures { result ≡ Found.has_exit run past.now }
 {
-    let mut found = false;
     for i in 0..past.len() {
-        found = is_exit_after(found, &past.entry(i).event, run);
+        if is_exit_of(&past.entry(i).event, run) {
+            return true;
+        }
     }
-    found
+    false
 }
 
 fn is_reply_to(event: &Event, req: u32) -> bool

@@ -223,26 +223,20 @@ fn is_joinable(
         && !is_on(&standing(operation, moment, past))
 }
 
-fn joinable_after<'a>(
-    earlier: Option<Operation<'a>>,
+fn joinable_among<'a>(
     past: &Past<'_>,
     moment: u64,
     kind: Kind,
     target: &str,
     here: Option<Operation<'a>>,
 ) -> Option<Operation<'a>>
-    ensures { result ≡ found_after (λ p. Operations.is_joinable past.now moment kind target.now (Pursued.operation p)) earlier.entry here.entry }
+    ensures { result ≡ found_after (λ p. Operations.is_joinable past.now moment kind target.now (Pursued.operation p)) None here.entry }
 {
-    match earlier {
-        Some(first) => Some(first),
-        None => {
-            let operation = here?;
-            if is_joinable(past, moment, kind, target, &operation) {
-                Some(operation)
-            } else {
-                None
-            }
-        }
+    let operation = here?;
+    if is_joinable(past, moment, kind, target, &operation) {
+        Some(operation)
+    } else {
+        None
     }
 }
 
@@ -254,12 +248,13 @@ fn find_joinable<'a>(
 ) -> Option<Operation<'a>>
     ensures { result ≡ find (λ p. Operations.is_joinable past.now moment kind target.now (Pursued.operation p)) (opens past.now past.now) }
 {
-    let mut found = None;
     for i in 0..past.len() {
         let here = opened_by(past, &past.entry(i).event);
-        found = joinable_after(found, past, moment, kind, target, here);
+        if let Some(operation) = joinable_among(past, moment, kind, target, here) {
+            return Some(operation);
+        }
     }
-    found
+    None
 }
 
 /// The operation that a request joins, if there is one.

@@ -1,23 +1,35 @@
-use Rattle.std.proofs.Common.{sym, ap, ◌∙◌, arith}
+use Rattle.std.proofs.Common.{Bool, sym, ap, ◌≡◌, ◌∙◌, arith, None, Some}
 use Rattle.fnc_journal.specs.History.{History}
 use Rattle.fnc_journal.specs.Prefix.{prefix}
-use Rattle.fnc_journal.proofs.Prefixes.{prefix-all, prefix-more, prefix-none}
-use Rattle.std.specs.Prelude.{Option, find}
+use Rattle.fnc_journal.proofs.Prefixes.{prefix-all, prefix-none}
+use Rattle.std.specs.Prelude.{find}
 use Rattle.fnc_journal.specs.Operations.{is_joinable}
 use Rattle.fnc_judge.specs.Pursued.{Pursued, operation}
 use Rattle.fnc_judge.specs.Opened.{found_after, opened, opens}
-use Rattle.fnc_judge.proofs.Opening.{found-more}
+use Rattle.fnc_judge.proofs.Searches.{goes-on, stops, open-first, open-kept}
 use Rattle.fnc_judge.proofs.requests.find_joinable.Goals as goal
 
 pub loop-i-init : goal.loop-i-init
-loop-i-init c = ap (λ (k : History). find (λ p. is_joinable c.args.past.now c.args.moment c.args.kind c.args.target.now (operation p)) (opens c.args.past.now k)) (sym (prefix-none c.args.past.now))
+loop-i-init c = ap (λ (k : History). find (λ p. is_joinable c.args.past.now c.args.moment c.args.kind c.args.target.now (operation p)) (opens c.args.past.now k)) (prefix-none c.args.past.now)
+
+pub returns-in-Some : goal.returns-in-Some
+returns-in-Some c =
+    let h : History = c.args.past.now in
+    let joins : Pursued → Bool = λ (p : Pursued). is_joinable h c.args.moment c.args.kind c.args.target.now (operation p) in
+    let e = c.entry.result.now in
+    let f : Pursued = c.in-Some.operation in
+    let here : found_after joins None (opened h e.event) ≡ Some f =
+    ap (found_after joins None) (sym c.opened_by-here.ensures) ∙ sym c.joinable_among.ensures ∙ c.in-Some.is in
+    sym (stops (λ (k : History). find joins (opens h k)) (Some f) (open-kept joins h f) h c.loop-i.i e (omega (arith, c.loop-i-test.true, c.len-i-end.ensures)) c.entry.ensures (open-first joins h e (prefix c.loop-i.i h) (Some f) c.loop-i.invariant here))
 
 pub loop-i-preserved : goal.loop-i-preserved
 loop-i-preserved c =
     let h : History = c.args.past.now in
+    let joins : Pursued → Bool = λ (p : Pursued). is_joinable h c.args.moment c.args.kind c.args.target.now (operation p) in
     let e = c.entry.result.now in
-    c.joinable_after-found.ensures ∙ ap (found_after (λ p. is_joinable h c.args.moment c.args.kind c.args.target.now (operation p)) c.loop-i.found) c.opened_by-here.ensures ∙ ap (λ (a : Option Pursued). found_after (λ p. is_joinable h c.args.moment c.args.kind c.args.target.now (operation p)) a (opened h e.event)) c.loop-i.invariant ∙ found-more (λ p. is_joinable h c.args.moment c.args.kind c.args.target.now (operation p)) (opens h (prefix c.loop-i.i h)) (opened h e.event)
-    ∙ ap (λ (k : History). find (λ p. is_joinable c.args.past.now c.args.moment c.args.kind c.args.target.now (operation p)) (opens c.args.past.now k)) (sym (prefix-more h c.loop-i.i e (omega (arith, c.loop-i-test.true, c.len-i-end.ensures)) c.entry.ensures))
+    let here : found_after joins None (opened h e.event) ≡ None =
+    ap (found_after joins None) (sym c.opened_by-here.ensures) ∙ sym c.joinable_among.ensures ∙ c.in_default.is in
+    goes-on (λ (k : History). find joins (opens h k)) None h c.loop-i.i e (omega (arith, c.loop-i-test.true, c.len-i-end.ensures)) c.entry.ensures (open-first joins h e (prefix c.loop-i.i h) None c.loop-i.invariant here)
 
 pub returns : goal.returns
-returns c = c.loop-i.invariant ∙ ap (λ (k : History). find (λ p. is_joinable c.args.past.now c.args.moment c.args.kind c.args.target.now (operation p)) (opens c.args.past.now k)) (prefix-all c.args.past.now c.loop-i.i (omega (arith, c.loop-i-test.false, c.len-i-end.ensures)))
+returns c = sym c.loop-i.invariant ∙ ap (λ (k : History). find (λ p. is_joinable c.args.past.now c.args.moment c.args.kind c.args.target.now (operation p)) (opens c.args.past.now k)) (prefix-all c.args.past.now c.loop-i.i (omega (arith, c.loop-i-test.false, c.len-i-end.ensures)))
