@@ -1,10 +1,9 @@
 // What is found in the first entries of a journal by its number.
 
-ghost use Rattle.std.specs.Prelude.{◌≡◌, ◌<◌, ◌||◌, ◌∷◌, Some, length, if◌then◌else◌, None};
+ghost use Rattle.std.specs.Prelude.{◌≡◌, ◌<◌, Some, if◌then◌else◌, None};
 ghost use Rattle.std.specs.Option.{option_copied};
 ghost use Rattle.fnc_journal.specs.Found as Found;
 ghost use Rattle.fnc_journal.specs.Operations.{lead_of};
-ghost use Rattle.fnc_journal.specs.Missing.{or_here};
 ghost use Rattle.fnc_judge.specs.Led.{lead_here};
 
 use crate::past::Past;

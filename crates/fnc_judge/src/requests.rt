@@ -1,13 +1,12 @@
 // The requests that wait, the operations that are open, and the answers that are due to them.
 
-ghost use Rattle.std.specs.Prelude.{◌≡◌, ◌||◌, ◌+◌, ◌<◌, ◌^◌, ◌-◌, if◌then◌else◌, false, find, is_none, is_some, option_map, unwrap_or};
+ghost use Rattle.std.specs.Prelude.{◌≡◌, ◌||◌, ◌<◌, ◌-◌, if◌then◌else◌, false, find, is_none, is_some, option_map, unwrap_or};
 ghost use Rattle.fnc_journal.specs.Acts.{acts};
 ghost use Rattle.fnc_journal.specs.Device as Devices;
 ghost use Rattle.fnc_journal.specs.Due as Dues;
-ghost use Rattle.fnc_journal.specs.Missing.{first_of, or_here};
+ghost use Rattle.fnc_journal.specs.Missing.{first_of};
 ghost use Rattle.fnc_journal.specs.Operations as Operations;
 ghost use Rattle.fnc_journal.specs.Same.{same_kind};
-ghost use Rattle.fnc_journal.specs.Slots as Slots;
 ghost use Rattle.fnc_judge.specs.Courses.{answer_of};
 ghost use Rattle.fnc_judge.specs.Opened.{found_after, opened, opens, pursued_of, waiting, waiting_here};
 ghost use Rattle.fnc_judge.specs.Pursued as Pursued;

@@ -1,7 +1,6 @@
 // The runs that are alive, and the start that comes first.
 
 ghost use Rattle.std.specs.Prelude.{◌≡◌, ◌&&◌, ◌+◌, ◌<◌, ◌^◌, ◌-◌, if◌then◌else◌, nat_le, Some};
-ghost use Rattle.fnc_journal.specs.Operations as Operations;
 ghost use Rattle.fnc_journal.specs.Registered.{lane};
 ghost use Rattle.fnc_journal.specs.Startable as Starts;
 ghost use Rattle.fnc_judge.specs.Opened.{counts, counts_here, is_sooner, startable_any};
