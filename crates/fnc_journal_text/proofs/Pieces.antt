@@ -2,7 +2,6 @@
 use Rattle.std.proofs.Common.{◌≡◌, ◌<◌, ◌+◌, ℕ, List, [], ◌++◌, length, drop, get_or, Option, Some, None, refl, sym, ap, ◌∙◌, subst, arith, append_assoc, append-nil, length-append}
 use Rattle.std.specs.Prelude.{Result, Ok, Err, OnOk, OnErr}
 use Rattle.std.proofs.lemmas.List.{drop_more, take-append-le}
-use Rattle.fnc_outside.specs.Faults.{NeverFalls}
 use Rattle.fnc_outside.specs.Told.{Gains}
 use Rattle.fnc_outside.specs.Writes.{AppendsPart}
 use Rattle.fnc_outside.proofs.Telling.{gains-gains, gains-part}

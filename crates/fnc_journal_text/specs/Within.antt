@@ -1,7 +1,7 @@
 -- What a journal's text can hold: names as they are read, and of a device only what options can define, each text and each
 -- number by itself.
-use Rattle.std.specs.Prelude.{ℕ, ℤ, pos, negsuc, List, [], ◌∷◌, Bool, true, false, not, ◌&&◌, ◌||◌, ◌==◌, nat_eq, nat_lt, nat_le, length, Option, Some, None, bytes_eq, codes}
-use Rattle.std.specs.List.{list_all, list_any, starts_with, ends_with}
+use Rattle.std.specs.Prelude.{ℕ, List, Bool, true, not, ◌&&◌, ◌==◌, nat_lt, nat_le, length}
+use Rattle.std.specs.List.{list_all, list_any}
 use Rattle.fnc_journal.specs.declared.definition.Definition.{Definition}
 use Rattle.fnc_journal.specs.declared.definition.Description.{Description}
 use Rattle.fnc_journal.specs.declared.definition.Parameter.{Parameter}
