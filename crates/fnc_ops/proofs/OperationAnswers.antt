@@ -7,7 +7,7 @@ use Rattle.fnc_journal.specs.declared.entry.Answer.{Answer}
 use Rattle.fnc_journal.specs.Device.{delay, cuts_power}
 use Rattle.fnc_journal.specs.Missing.{has_any}
 use Rattle.fnc_journal.specs.Slots.{Task, Operation, Rank, queries}
-use Rattle.fnc_journal.specs.Acts.{Act, concluded}
+use Rattle.fnc_journal.specs.Acts.{Act, concluded, runs}
 use Rattle.fnc_journal.specs.Standing as Standing
 use Rattle.fnc_journal.specs.Standing.{ranks, queries_concluded}
 use Rattle.fnc_journal.specs.Due as Due
@@ -17,7 +17,7 @@ use Rattle.fnc_ops.specs.KeptOperation.{KeptOperation}
 use Rattle.fnc_ops.specs.SlotRecords.{is_concluded}
 use Rattle.fnc_ops.specs.SlotFacts.{IsSlot, BothOr}
 use Rattle.fnc_ops.specs.LevelRecords.{is_queried, is_lost, is_done, standing_in}
-use Rattle.fnc_ops.specs.LevelFacts.{IsShort, IsLevelSlot, IsQuerySlot, IsLevel}
+use Rattle.fnc_ops.specs.LevelFacts.{IsShort, IsTrying, IsLevelSlot, IsQuerySlot, IsLevel}
 use Rattle.fnc_ops.specs.OperationRecords as OperationRecords
 use Rattle.fnc_ops.specs.OperationRecords.{first_query, is_kept, passed, standing_slot, standing_at}
 use Rattle.fnc_ops.specs.OperationFacts.{IsOperation, IsStandingAt, IsStanding, kept_queries, tried_levels}
@@ -31,6 +31,7 @@ use Rattle.fnc_ops.proofs.Latest.{since_is}
 pub record IsShortSlot (o : Operation) (xs : List Act) (r : SlotRecord) (t : Task) : Type 0 where
   pub is : IsSlot o xs r t
   pub short : IsShort o t
+  pub trying : IsTrying r
 
 both_weaken : {A B : Type 0} (R S : A → B → Type 0) → ((x : A) (y : B) → R x y → S x y) → (a : Option A) (b : Option B) → BothOr R a b → BothOr S a b
 both_weaken R S h None None z = z
@@ -46,7 +47,7 @@ module _ (o : Operation) (m : ℕ) (xs : List Act) where
       BothOr (IsShortSlot o xs) (first_query m ls) (find (λ q. not (concluded q o.over m xs)) (queries o))
   first_query_found ls z =
       subst (λ x. BothOr (IsShortSlot o xs) x (find (λ q. not (concluded q o.over m xs)) (queries o))) (sym (first_query_is m ls))
-      (both_weaken (IsQuerySlot o xs) (IsShortSlot o xs) (λ a b h. record { is = h.is; short = h.short }) _ _
+      (both_weaken (IsQuerySlot o xs) (IsShortSlot o xs) (λ a b h. record { is = h.is; short = h.short; trying = h.trying }) _ _
       (zip_find (IsQuerySlot o xs) _ _ (λ a b h. ap not (query_concluded_is a b h)) (kept_queries ls) (queries o) z))
 
   in_first_kept : (rs : List KeptLevel) (ls : List Rank) → AllZip (IsLevel o xs) rs ls →
@@ -60,7 +61,7 @@ module _ (o : Operation) (m : ℕ) (xs : List Act) where
           BothOr (IsShortSlot o xs) (option_and_then (standing_in m) (find (λ l. not (is_lost m l)) rs)) (option_and_then (Standing.standing_in o m xs) (Standing.first_kept o m xs ls)) →
           BothOr (IsShortSlot o xs) (option_and_then (standing_in m) (cond b (Some r) (find (λ l. not (is_lost m l)) rs)))
           (option_and_then (Standing.standing_in o m xs) (cond b (Some l) (Standing.first_kept o m xs ls)))
-      go true e = both_weaken (IsLevelSlot o xs) (IsShortSlot o xs) (λ a b h. record { is = h.is; short = h.short }) _ _ (standing_in_is o m xs r l z.0)
+      go true e = both_weaken (IsLevelSlot o xs) (IsShortSlot o xs) (λ a b h. record { is = h.is; short = h.short; trying = h.trying }) _ _ (standing_in_is o m xs r l z.0)
       go false e = e
 
   -- the slot at which the operation stands
@@ -70,24 +71,27 @@ module _ (o : Operation) (m : ℕ) (xs : List Act) where
       (subst (λ x. BothOr (IsShortSlot o xs) (option_and_then (standing_in m) x) (option_and_then (Standing.standing_in o m xs) (Standing.first_kept o m xs (ranks o m xs))))
       (sym (first_kept_is m r.levels)) (in_first_kept (tried_levels r.levels) (ranks o m xs) h.ranks_are))
 
-  standing_at_is : (r : KeptOperation) → IsOperation m xs r o → (s : SlotRecord) (t : Task) → IsShortSlot o xs s t → IsStandingAt o m xs (standing_at (OperationRecords.since m r) r.over s) t
-  standing_at_is r h s t k = record {
+  pub standing_at_is : (r : KeptOperation) → IsOperation m xs r o → Standing.since o m xs < 2 ^ 63 → (s : SlotRecord) (t : Task) → IsShortSlot o xs s t → runs t.slot xs < 255 →
+      IsStandingAt o m xs (standing_at (OperationRecords.since m r) r.over s) t
+  standing_at_is r h early s t k few = record {
     slot = k.is.slot;
     reg = k.is.reg;
     kind = k.is.kind;
-    attempt = λ few. attempt_is o xs s t k.is few;
-    ready = λ early. rw (since_is o m xs r h) (ready_is o m xs s t k.is (let waits : delay t.definition t.kind o.target o.coin < 2 ^ 62 = k.short.waits in omega (arith, early, waits)));
+    attempt = attempt_is o xs s t k.is few;
+    ready = rw (since_is o m xs r h) (ready_is o m xs s t k.is (let waits : delay t.definition t.kind o.target o.coin < 2 ^ 62 = k.short.waits in omega (arith, early, waits)));
     limit = rw h.over (limit_is o m xs s t k.is);
   }
 
-  pub standing_is : (r : KeptOperation) → IsOperation m xs r o → IsStanding o m xs (OperationRecords.standing m r) (Standing.standing o m xs)
-  standing_is r h = go (standing_slot m r) (Standing.standing o m xs) (standing_slot_is r h)
+  pub standing_is : (r : KeptOperation) → IsOperation m xs r o → Standing.since o m xs < 2 ^ 63 → ((t : Task) → Standing.standing o m xs ≡ Some t → runs t.slot xs < 255) →
+      IsStanding o m xs (OperationRecords.standing m r) (Standing.standing o m xs)
+  standing_is r h early few = go (standing_slot m r) (Standing.standing o m xs) few (standing_slot_is r h)
     where
-      go : (x : Option SlotRecord) (y : Option Task) → BothOr (IsShortSlot o xs) x y → IsStanding o m xs (option_map (standing_at (OperationRecords.since m r) r.over) x) y
-      go None None z = z
-      go None (Some t) z = z
-      go (Some s) None z = z
-      go (Some s) (Some t) z = standing_at_is r h s t z
+      go : (x : Option SlotRecord) (y : Option Task) → ((t : Task) → y ≡ Some t → runs t.slot xs < 255) → BothOr (IsShortSlot o xs) x y →
+          IsStanding o m xs (option_map (standing_at (OperationRecords.since m r) r.over) x) y
+      go None None f z = z
+      go None (Some t) f z = z
+      go (Some s) None f z = z
+      go (Some s) (Some t) f z = standing_at_is r h early s t z (f t refl)
 
   -- the level that passes
   passed_is : (rs : List KeptLevel) (ls : List Rank) → AllZip (IsLevel o xs) (tried_levels rs) ls →

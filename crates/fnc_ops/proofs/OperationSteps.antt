@@ -8,21 +8,24 @@ use Rattle.fnc_journal.specs.declared.entry.Phase.{Phase}
 use Rattle.fnc_journal.specs.declared.entry.Slot.{Slot}
 use Rattle.fnc_journal.specs.Missing.{has_come}
 use Rattle.fnc_journal.specs.Same.{same_slot, same_phase}
-use Rattle.fnc_journal.specs.Slots.{Task, Operation, QueriedDevice, queries, ranked_from, act_task, tries}
-use Rattle.fnc_journal.specs.Acts.{Act, is_query_phase, concluded, spent, failed, has_succeeded, end, limit, is_below}
+use Rattle.fnc_journal.specs.Slots.{Task, Operation, QueriedDevice, queries, slots_of, ranked_from, act_task, tries}
+use Rattle.fnc_journal.specs.Acts.{Act, moment_of, is_query_phase, concluded, spent, failed, has_succeeded, end, limit, is_below}
 use Rattle.fnc_journal.specs.Standing.{capable, ranks, queries_concluded}
+use Rattle.fnc_journal.proofs.Each.{each-map}
 use Rattle.fnc_journal.proofs.SlotLemmas.{same-begun, same-ended_other}
 use Rattle.fnc_journal.proofs.StandingLemmas.{Same, ranks-same, queries_concluded-same, capable-same}
+use Rattle.fnc_ops.specs.declared.slot.LastRun.{LastRun}
 use Rattle.fnc_ops.specs.declared.slot.SlotRecord.{SlotRecord}
 use Rattle.fnc_ops.specs.KeptLevel.{KeptLevel}
 use Rattle.fnc_ops.specs.KeptOperation.{KeptOperation}
 use Rattle.fnc_ops.specs.SlotRecords.{at_level, started, ended}
+use Rattle.fnc_ops.specs.SlotFacts.{last_of}
 use Rattle.fnc_ops.specs.LevelRecords.{is_queried, level_started, level_ended}
 use Rattle.fnc_ops.specs.LevelFacts.{IsLevelSlot, IsQuerySlot, IsLevel, AreFew}
-use Rattle.fnc_ops.specs.OperationRecords.{ranked_levels, ranked_if_queried, at_moment, operation_started, operation_ended}
-use Rattle.fnc_ops.specs.OperationFacts.{IsCandidate, IsUnranked, IsOperation, kept_queries, tried_levels, AreDistinct}
+use Rattle.fnc_ops.specs.OperationRecords.{is_idle, ranked_levels, ranked_if_queried, at_moment, operation_started, operation_ended}
+use Rattle.fnc_ops.specs.OperationFacts.{IsCandidate, IsUnranked, IsOperation, kept_queries, tried_levels, AreDistinct, ArePast, AreInTurn}
 use Rattle.fnc_ops.proofs.Zip.{zip_map, zip_each, zip_map_each}
-use Rattle.fnc_ops.proofs.LevelSteps.{level_slot-started, query_slot-started, query-started, level-started, level_slot-ended, query_slot-ended, query-ended, level-ended, IsFree, ForSome}
+use Rattle.fnc_ops.proofs.LevelSteps.{level_slot-started, query_slot-started, query-started, level-started, level_slot-ended, query_slot-ended, query-ended, level-ended, IsFree, AreFree, ForSome}
 use Rattle.fnc_ops.proofs.OperationAnswers.{queries_is}
 use Rattle.fnc_ops.proofs.Ranking.{queries-ranked, queries-zip, ranks_by, ranks_known, ranks_unknown}
 
@@ -57,6 +60,10 @@ other_slot p s e f = rw e (go s.phase f)
 phase_of_act : (o : Operation) (xs : List Act) (r : SlotRecord) (d : QueriedDevice) → ((k : ℕ) → IsLevelSlot o xs (at_level k r) (act_task false o.kind k 0 d.device)) → r.slot.phase ≡ Phase.Act
 phase_of_act o xs r d h = let e : (at_level 0 r).slot ≡ (act_task false o.kind 0 0 d.device).slot = (h 0).is.slot in ap (λ (s : Slot). s.phase) e
 
+-- so a start of a query leaves it free
+act-free : (o : Operation) (m : ℕ) (s : Slot) (xs : List Act) (k : ℕ) (d : QueriedDevice) → is_query_phase s.phase ≡ true → IsFree o m s xs (act_task false o.kind k 0 d.device)
+act-free o m s xs k d e f = let other : same_slot (act_task false o.kind k 0 d.device).slot s ≡ false = other_slot (act_task false o.kind k 0 d.device).slot s refl e in cc
+
 -- a start
 module _ (o : Operation) (m run : ℕ) (s : Slot) (xs : List Act) (few : AreFew xs) (early : m < 2 ^ 63) where
   each-begun : (rs : List SlotRecord) → AllZip (IsQuerySlot o xs) rs (queries o) → AllByRecursion (Same o.over m (Act.Begun m run s ∷ xs) m xs) (queries o)
@@ -69,7 +76,7 @@ module _ (o : Operation) (m run : ℕ) (s : Slot) (xs : List Act) (few : AreFew 
     untried = h.untried;
     fit = h.fit;
     firsts = ap (map (started s m)) h.firsts ∙ rw other refl;
-    is = λ k. subst (λ x. IsLevelSlot o (Act.Begun m run s ∷ xs) x (act_task false o.kind k 0 c.device)) (same k) (level_slot-started o m run s xs few early (at_level k h.act) (act_task false o.kind k 0 c.device) (h.is k));
+    is = λ k. subst (λ x. IsLevelSlot o (Act.Begun m run s ∷ xs) x (act_task false o.kind k 0 c.device)) (same k) (level_slot-started o m run s xs few early (at_level k h.act) (act_task false o.kind k 0 c.device) (act-free o m s xs k c e) (h.is k));
     ons = ap (map (started s m)) h.ons;
   }
     where
@@ -88,19 +95,23 @@ module _ (o : Operation) (m run : ℕ) (s : Slot) (xs : List Act) (few : AreFew 
       go None a = (tt, a)
       go (Some q) a = a
 
-  pub operation-started : (r : KeptOperation) → (r.ranked ≡ false → is_query_phase s.phase ≡ true) → AllByRecursion (IsFree o m s xs) (queries o) → IsOperation m xs r o → IsOperation m (Act.Begun m run s ∷ xs) (operation_started s m r) o
-  operation-started r query free h = record {
+  pub operation-started : (r : KeptOperation) → (r.ranked ≡ false → is_query_phase s.phase ≡ true) → is_idle (last_of s xs) ≡ true →
+      AllByRecursion (IsFree o m s xs) (queries o) → AllByRecursion (AreFree o m s xs) (ranks o m xs) → IsOperation m xs r o → IsOperation m (Act.Begun m run s ∷ xs) (operation_started s m r) o
+  operation-started r query idle free free_levels h = record {
     req = h.req;
     kind = h.kind;
     target = h.target;
     begin = h.begin;
     over = h.over;
+    past = (omega arith, h.past);
+    turns = (idle, h.turns);
     distinct = h.distinct;
+    levels_distinct = h.levels_distinct;
     queries_are = subst (λ qs. AllZip (IsQuerySlot o (Act.Begun m run s ∷ xs)) qs (queries o)) (sym (queries-changed (level_started s m) (started s m) (λ l. refl) (λ l. refl) r.levels))
         (zip_map_each _ _ (IsFree o m s xs) (started s m) (query_slot-started o m run s xs few early) (kept_queries r.levels) (queries o) free h.queries_are);
     ranks_are = subst (λ ls. AllZip (IsLevel o (Act.Begun m run s ∷ xs)) ls (ranks o m (Act.Begun m run s ∷ xs))) (sym (tried-changed (level_started s m) (started s m) (λ l. refl) (λ l. refl) r.levels))
         (subst (λ ks. AllZip (IsLevel o (Act.Begun m run s ∷ xs)) (map (level_started s m) (tried_levels r.levels)) ks) (sym (ranks-same o m (Act.Begun m run s ∷ xs) m xs (each-begun (kept_queries r.levels) h.queries_are)))
-        (zip_map _ _ (level_started s m) (level-started o m run s xs few early) (tried_levels r.levels) (ranks o m xs) h.ranks_are));
+        (zip_map_each _ _ (AreFree o m s xs) (level_started s m) (level-started o m run s xs few early) (tried_levels r.levels) (ranks o m xs) free_levels h.ranks_are));
     ranked_is = h.ranked_is ∙ ap (λ b. o.levelled || b) (sym (queries_concluded-same o m (Act.Begun m run s ∷ xs) m xs (each-begun (kept_queries r.levels) h.queries_are)));
     unranked = λ e. let u = h.unranked e in record {
       unlevelled = u.unlevelled;
@@ -110,25 +121,16 @@ module _ (o : Operation) (m run : ℕ) (s : Slot) (xs : List Act) (few : AreFew 
     };
   }
 
--- what is known once the queries are concluded
-or-false-left : (a b : Bool) → (a || b) ≡ false → a ≡ false
-or-false-left true b e = e
-or-false-left false b e = refl
-
-or-false-right : (a b : Bool) → (a || b) ≡ false → b ≡ false
-or-false-right true b e = cc
-or-false-right false b e = e
-
 -- the record by the test whether it becomes known now
-rank_by : (m : ℕ) (r : KeptOperation) (a b : Bool) → r.ranked ≡ a → list_all (is_queried m) r.levels ≡ b →
+pub rank_by : (m : ℕ) (r : KeptOperation) (a b : Bool) → r.ranked ≡ a → list_all (is_queried m) r.levels ≡ b →
     ranked_if_queried m r ≡ cond (not a && b) (record r { ranked = true; levels = ranked_levels 1 r.levels }) r
 rank_by m r a b e f = ap₂ (λ x y. cond (not x && y) (record r { ranked = true; levels = ranked_levels 1 r.levels }) r) e f
 
 -- the record whose queries may be concluded now
 module _ (o : Operation) (m : ℕ) (xs : List Act) where
-  ranked-once : (r : KeptOperation) → AreDistinct (queries o) → r.req ≡ o.req → r.kind ≡ o.kind → r.target ≡ o.target → r.begin ≡ o.begin → r.over ≡ o.over → r.ranked ≡ false → IsUnranked o xs r.levels →
+  pub ranked-once : (r : KeptOperation) → ArePast m xs → AreInTurn xs → AreDistinct (queries o) → AreDistinct (slots_of o.levels) → r.req ≡ o.req → r.kind ≡ o.kind → r.target ≡ o.target → r.begin ≡ o.begin → r.over ≡ o.over → r.ranked ≡ false → IsUnranked o xs r.levels →
       IsOperation m xs (ranked_if_queried m r) o
-  ranked-once r distinct req kind target begin over e u =
+  ranked-once r past turns distinct levels_distinct req kind target begin over e u =
       subst (λ k. IsOperation m xs k o) (sym (rank_by m r false (queries_concluded o m xs) e (queries_is o m xs r.levels queried))) (go (queries_concluded o m xs) refl)
     where
       queried : AllZip (IsQuerySlot o xs) (kept_queries r.levels) (queries o)
@@ -141,7 +143,10 @@ module _ (o : Operation) (m : ℕ) (xs : List Act) where
         target = target;
         begin = begin;
         over = over;
+        past = past;
+        turns = turns;
         distinct = distinct;
+        levels_distinct = levels_distinct;
         queries_are = subst (λ qs. AllZip (IsQuerySlot o xs) qs (queries o)) (sym (queries-ranked 1 r.levels)) queried;
         ranks_are = ranks_known o m xs r.levels u f;
         ranked_is = sym (ap₂ ◌||◌ u.unlevelled f);
@@ -153,7 +158,10 @@ module _ (o : Operation) (m : ℕ) (xs : List Act) where
         target = target;
         begin = begin;
         over = over;
+        past = past;
+        turns = turns;
         distinct = distinct;
+        levels_distinct = levels_distinct;
         queries_are = queried;
         ranks_are = ranks_unknown o m xs r.levels u f;
         ranked_is = e ∙ sym (ap₂ ◌||◌ u.unlevelled f);
@@ -194,6 +202,9 @@ ranked-stays o m n xs ys stays same e = go o.levelled refl (queries_concluded o 
         (ranks_by o n ys false true k now ∙ ap (ranked_from o.kind 1) (same f) ∙ sym (ranks_by o m xs false true k f), ap₂ ◌||◌ k now)
     go false k false f e = cc
 
+past-later : (m n : ℕ) (xs : List Act) → m ≤ n → ArePast m xs → ArePast n xs
+past-later m n xs le a = each-map (λ (x : Act). moment_of x ≤ m) (λ (x : Act). moment_of x ≤ n) xs (λ x k. omega (arith, le, k)) a
+
 pub operation-later : (o : Operation) (m n : ℕ) (xs : List Act) → m ≤ n → (r : KeptOperation) → IsOperation m xs r o → IsOperation n xs (at_moment n r) o
 operation-later o m n xs le r h = go r.ranked refl
   where
@@ -206,13 +217,16 @@ operation-later o m n xs le r h = go r.ranked refl
           target = h.target;
           begin = h.begin;
           over = h.over;
+          past = past-later m n xs le h.past;
+          turns = h.turns;
           distinct = h.distinct;
+          levels_distinct = h.levels_distinct;
           queries_are = h.queries_are;
           ranks_are = subst (AllZip (IsLevel o xs) (tried_levels r.levels)) (sym k.0) h.ranks_are;
           ranked_is = e ∙ sym k.1;
           unranked = h.unranked;
         })
-    go false e = ranked-once o n xs (record r { moment = n }) h.distinct h.req h.kind h.target h.begin h.over e (h.unranked e)
+    go false e = ranked-once o n xs (record r { moment = n }) (past-later m n xs le h.past) h.turns h.distinct h.levels_distinct h.req h.kind h.target h.begin h.over e (h.unranked e)
 
 -- an exit that comes late leaves its slot as it was
 same-late : (t : Task) (over m n : ℕ) (s : Slot) (exit : Exit) (listed : Bool) (xs : List Act) → same_slot t.slot s ≡ true → is_below n (limit t over xs) ≡ false →
@@ -223,8 +237,8 @@ same-late t over m n s exit listed xs p q = record { succeeded = rw (p, q) refl;
 abbrev pub IsLate : Operation → ℕ → Slot → List Act → Task → Type 0
 IsLate o m s xs t = concluded t o.over m xs ≡ true → same_slot t.slot s ≡ true → is_below m (limit t o.over xs) ≡ false
 
--- an exit
-module _ (o : Operation) (m : ℕ) (s : Slot) (exit : Exit) (listed : Bool) (xs : List Act) (few : AreFew xs) where
+-- an exit of a run that is alive
+module _ (o : Operation) (m : ℕ) (s : Slot) (exit : Exit) (listed : Bool) (xs : List Act) (few : AreFew xs) (begun : ℕ) (alive : last_of s xs ≡ LastRun.Alive begun) where
   same-after : (t : Task) → IsLate o m s xs t → concluded t o.over m xs ≡ true → Same o.over m (Act.Ended m s exit listed ∷ xs) m xs t
   same-after t late e = go (same_slot t.slot s) refl
     where
@@ -245,11 +259,11 @@ module _ (o : Operation) (m : ℕ) (s : Slot) (exit : Exit) (listed : Bool) (xs 
   candidate-ended : is_query_phase s.phase ≡ true → (r : KeptLevel) (c : QueriedDevice) → IsCandidate o xs r c → IsCandidate o (Act.Ended m s exit listed ∷ xs) (level_ended s exit listed o.over m r) c
   candidate-ended e r c h = record {
     act = h.act;
-    query = query-ended o m s exit listed xs few r.query c.query h.query;
+    query = query-ended o m s exit listed xs few begun alive r.query c.query h.query;
     untried = h.untried;
     fit = h.fit;
     firsts = ap (map (ended s exit listed o.over m)) h.firsts ∙ rw other refl;
-    is = λ k. subst (λ x. IsLevelSlot o (Act.Ended m s exit listed ∷ xs) x (act_task false o.kind k 0 c.device)) (same k) (level_slot-ended o m s exit listed xs few (at_level k h.act) (act_task false o.kind k 0 c.device) (h.is k));
+    is = λ k. subst (λ x. IsLevelSlot o (Act.Ended m s exit listed ∷ xs) x (act_task false o.kind k 0 c.device)) (same k) (level_slot-ended o m s exit listed xs few begun alive (at_level k h.act) (act_task false o.kind k 0 c.device) (h.is k));
     ons = ap (map (ended s exit listed o.over m)) h.ons;
   }
     where
@@ -258,6 +272,9 @@ module _ (o : Operation) (m : ℕ) (s : Slot) (exit : Exit) (listed : Bool) (xs 
 
       same : (k : ℕ) → ended s exit listed o.over m (at_level k h.act) ≡ at_level k h.act
       same k = let no : same_slot (at_level k h.act).slot s ≡ false = other_slot (at_level k h.act).slot s (phase_of_act o xs h.act c h.is) e in rw no refl
+
+  not_idle : is_idle (last_of s xs) ≡ false
+  not_idle = ap is_idle alive
 
   abbrev after : KeptOperation → KeptOperation
   after r = record r { levels = map (level_ended s exit listed o.over m) r.levels }
@@ -269,7 +286,7 @@ module _ (o : Operation) (m : ℕ) (s : Slot) (exit : Exit) (listed : Bool) (xs 
       queried : AllZip (IsQuerySlot o (Act.Ended m s exit listed ∷ xs)) (kept_queries (map (level_ended s exit listed o.over m) r.levels)) (queries o)
       queried =
           subst (λ qs. AllZip (IsQuerySlot o (Act.Ended m s exit listed ∷ xs)) qs (queries o)) (sym (queries-changed (level_ended s exit listed o.over m) (ended s exit listed o.over m) (λ l. refl) (λ l. refl) r.levels))
-          (zip_map _ _ (ended s exit listed o.over m) (query_slot-ended o m s exit listed xs few) (kept_queries r.levels) (queries o) h.queries_are)
+          (zip_map _ _ (ended s exit listed o.over m) (query_slot-ended o m s exit listed xs few begun alive) (kept_queries r.levels) (queries o) h.queries_are)
 
       go : (b : Bool) → r.ranked ≡ b → IsOperation m (Act.Ended m s exit listed ∷ xs) (ranked_if_queried m (after r)) o
       go true e =
@@ -282,17 +299,20 @@ module _ (o : Operation) (m : ℕ) (s : Slot) (exit : Exit) (listed : Bool) (xs 
             target = h.target;
             begin = h.begin;
             over = h.over;
+            past = (omega arith, h.past);
+            turns = (not_idle, h.turns);
             distinct = h.distinct;
+            levels_distinct = h.levels_distinct;
             queries_are = queried;
             ranks_are = subst (λ ls. AllZip (IsLevel o (Act.Ended m s exit listed ∷ xs)) ls (ranks o m (Act.Ended m s exit listed ∷ xs)))
                 (sym (tried-changed (level_ended s exit listed o.over m) (ended s exit listed o.over m) (λ l. refl) (λ l. refl) r.levels))
                 (subst (AllZip (IsLevel o (Act.Ended m s exit listed ∷ xs)) (map (level_ended s exit listed o.over m) (tried_levels r.levels))) (sym k.0)
-                (zip_map _ _ (level_ended s exit listed o.over m) (level-ended o m s exit listed xs few) (tried_levels r.levels) (ranks o m xs) h.ranks_are));
+                (zip_map _ _ (level_ended s exit listed o.over m) (level-ended o m s exit listed xs few begun alive) (tried_levels r.levels) (ranks o m xs) h.ranks_are));
             ranked_is = e ∙ sym k.1;
             unranked = λ f. let wrong : true ≡ false = sym e ∙ f in cc;
           })
       go false e = let u = h.unranked e in
-          ranked-once o m (Act.Ended m s exit listed ∷ xs) (after r) h.distinct h.req h.kind h.target h.begin h.over e (record {
+          ranked-once o m (Act.Ended m s exit listed ∷ xs) (after r) (omega arith, h.past) (not_idle, h.turns) h.distinct h.levels_distinct h.req h.kind h.target h.begin h.over e (record {
             unlevelled = u.unlevelled;
             few = u.few;
             queried = (query e, u.queried);

@@ -27,7 +27,7 @@ queries-ranked k (l ∷ ls) = ap₂ (λ (x : Option SlotRecord) (ys : List SlotR
     same false = refl
 
 -- one device is no split
-one_device : (kind : Kind) (d : Device) → is_split kind (d ∷ []) ≡ false
+pub one_device : (kind : Kind) (d : Device) → is_split kind (d ∷ []) ≡ false
 one_device Kind.On d = refl
 one_device Kind.Off d = refl
 one_device Kind.Reboot d = refl

@@ -1,6 +1,6 @@
 -- What the records of all operations say is what the journal says.
-use Rattle.std.proofs.Common.{ℕ, List, [], ◌∷◌, Bool, true, false, ◌≡◌, ◌==◌, refl, ap, sym, ◌∙◌, subst, Option, Some, None, cond, is_some}
-use Rattle.std.specs.Prelude.{find, option_and_then, option_map, unwrap_or}
+use Rattle.std.proofs.Common.{ℕ, List, [], ◌∷◌, ◌≡◌, refl, ap, sym, ◌∙◌, subst, Option, Some, None, cond, is_some}
+use Rattle.std.specs.Prelude.{find}
 use Rattle.std.specs.List.{AllZip}
 use Rattle.std.specs.Option.{option_or}
 use Rattle.fnc_journal.specs.declared.entry.Answer.{Answer}
@@ -13,9 +13,9 @@ use Rattle.fnc_ops.specs.KeptOperation.{KeptOperation}
 use Rattle.fnc_ops.specs.OperationRecords as OperationRecords
 use Rattle.fnc_ops.specs.OperationFacts.{IsOperation}
 use Rattle.fnc_ops.specs.OpsRecords as OpsRecords
-use Rattle.fnc_ops.specs.OpsRecords.{DueTo, shown, is_of}
-use Rattle.fnc_ops.specs.Stands.{Stands, StandsFor, AreAt, IsStandingOf, IsStandingAtMoment, IsFirstDue}
-use Rattle.fnc_ops.proofs.OperationAnswers.{standing_is, due_is}
+use Rattle.fnc_ops.specs.OpsRecords.{DueTo, shown}
+use Rattle.fnc_ops.specs.Stands.{Stands, StandEach, AreAt, IsFirstDue}
+use Rattle.fnc_ops.proofs.OperationAnswers.{due_is}
 use Rattle.fnc_journal.specs.Due.{due}
 
 abbrev Found : History → ℕ → Option DueTo → Option Operation → Type 0
@@ -41,7 +41,7 @@ found h m (r ∷ rs) (o ∷ os) z a = rw (due_of h m r o z.0 a.0) (go (due_to h 
     go None e f = f
     go (Some x) e f = (sym z.0.operation.req, e)
 
-pub due_found : (rs : List KeptOperation) (h : History) (m : ℕ) (d : Option Due) → shown d ≡ OpsRecords.first_due m rs → AreAt m rs → StandsFor rs h → IsFirstDue h m d (first_due h m)
+pub due_found : (rs : List KeptOperation) (h : History) (m : ℕ) (d : Option Due) → shown d ≡ OpsRecords.first_due m rs → AreAt m rs → StandEach rs h → IsFirstDue h m d (first_due h m)
 due_found rs h m d e a z = go d (first_due h m) (subst (λ x. Found h m x (first_due h m)) (sym e) (found h m rs (open_operations h) z a))
   where
     go : (d : Option Due) (o : Option Operation) → Found h m (shown d) o → IsFirstDue h m d o
@@ -49,24 +49,3 @@ due_found rs h m d e a z = go d (first_due h m) (subst (λ x. Found h m x (first
     go None (Some o) f = f
     go (Some d) None f = f
     go (Some d) (Some o) f = f
-
--- where one of them stands
-standing_among : (h : History) (req : ℕ) (rs : List KeptOperation) (os : List Operation) → AllZip (Stands h) rs os →
-    IsStandingAtMoment h (unwrap_or (option_map (λ r. r.moment) (find (is_of req) rs)) 0) (OpsRecords.standing req rs) (find (λ o. o.req == req) os)
-standing_among h req [] [] z = refl
-standing_among h req [] (o ∷ os) z = absurd z
-standing_among h req (r ∷ rs) [] z = absurd z
-standing_among h req (r ∷ rs) (o ∷ os) z =
-    let same : (r.req == req) ≡ (o.req == req) = ap (λ n. n == req) z.0.operation.req in
-    subst (λ b. IsStandingAtMoment h (unwrap_or (option_map (λ r. r.moment) (cond b (Some r) (find (is_of req) rs))) 0)
-    (option_and_then (λ o. OperationRecords.standing o.moment o) (cond b (Some r) (find (is_of req) rs))) (cond (o.req == req) (Some o) (find (λ o. o.req == req) os)))
-    (sym same) (go (o.req == req) (standing_among h req rs os z.1))
-  where
-    go : (b : Bool) → IsStandingAtMoment h (unwrap_or (option_map (λ r. r.moment) (find (is_of req) rs)) 0) (OpsRecords.standing req rs) (find (λ o. o.req == req) os) →
-        IsStandingAtMoment h (unwrap_or (option_map (λ r. r.moment) (cond b (Some r) (find (is_of req) rs))) 0)
-        (option_and_then (λ o. OperationRecords.standing o.moment o) (cond b (Some r) (find (is_of req) rs))) (cond b (Some o) (find (λ o. o.req == req) os))
-    go true e = standing_is o r.moment (acts o.req h) r z.0.operation
-    go false e = e
-
-pub standing_found : (rs : List KeptOperation) (h : History) (req : ℕ) → StandsFor rs h → IsStandingOf h req rs (OpsRecords.standing req rs)
-standing_found rs h req z = standing_among h req rs (open_operations h) z

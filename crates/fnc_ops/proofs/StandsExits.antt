@@ -1,5 +1,6 @@
 -- The records stand for the journal with the exit of a run.
 use Rattle.std.proofs.Common.{ℕ, List, [], ◌∷◌, Bool, true, false, ◌≡◌, ◌≤◌, ◌<◌, ◌+◌, ◌^◌, ◌==◌, refl, ap, ap₂, sym, ◌∙◌, subst, Option, Some, None, cond, not, is_some, arith, length, map, ◌&&◌, eqb-true, eq-eqb}
+use Rattle.std.proofs.lemmas.Bool.{not-true}
 use Rattle.std.specs.Prelude.{option_map}
 use Rattle.std.specs.List.{AllZip, list_all}
 use Rattle.fnc_journal.specs.declared.entry.Event.{Event}
@@ -20,20 +21,21 @@ use Rattle.fnc_journal.proofs.AliveRuns.{alive_is_last}
 use Rattle.fnc_journal.proofs.Frames.{or_here-some}
 use Rattle.fnc_journal.proofs.Lawfulness.{and-left, and-right}
 use Rattle.fnc_journal.proofs.RunsOfOne.{runner-of, run-of_other}
-use Rattle.fnc_ops.specs.declared.ops.RunStart.{RunStart}
+use Rattle.fnc_ops.specs.declared.run_start.RunStart.{RunStart}
 use Rattle.fnc_ops.specs.KeptOperation.{KeptOperation}
 use Rattle.fnc_ops.specs.LevelFacts.{AreFew}
 use Rattle.fnc_ops.specs.LevelRecords.{is_queried, level_ended}
 use Rattle.fnc_ops.specs.OperationRecords.{only, operation_ended, ranked_if_queried, ranked_levels}
-use Rattle.fnc_ops.specs.OperationFacts.{IsOperation}
+use Rattle.fnc_ops.specs.OperationFacts.{IsOperation, last_begun, left_levels}
 use Rattle.fnc_ops.specs.OpsRecords.{start_of, start_here, ended}
-use Rattle.fnc_ops.specs.Stands.{IsKept, Stands, StandsFor, AreAt, exit_entry, numbers}
+use Rattle.fnc_ops.specs.Stands.{IsKept, Stands, StandEach, AreAt, exit_entry, numbers}
+use Rattle.fnc_ops.proofs.LeftTries.{left-ranked, left-ended}
 use Rattle.fnc_ops.proofs.OperationSteps.{operation-ended}
-use Rattle.fnc_ops.proofs.StandingSlots.{run-query, alive-late}
+use Rattle.fnc_ops.proofs.StandingSlots.{run-query, alive-last, alive-late}
 use Rattle.fnc_ops.proofs.StandsSteps.{acts-few}
 
 -- what the start of a run says of its operation and slot
-abbrev run_start : Started → RunStart
+abbrev pub run_start : Started → RunStart
 run_start s = record { req = record { 0 = s.req }; slot = s.slot }
 
 start_here-started : (n : ℕ) (event : Event) → start_here n event ≡ option_map run_start (started_here n event)
@@ -50,7 +52,7 @@ or_here-map None (Some y) = refl
 or_here-map (Some x) None = refl
 or_here-map (Some x) (Some y) = refl
 
-start_of-started : (n : ℕ) (h : History) → start_of n h ≡ option_map run_start (started n h)
+pub start_of-started : (n : ℕ) (h : History) → start_of n h ≡ option_map run_start (started n h)
 start_of-started n [] = refl
 start_of-started n (e ∷ before) = ap₂ or_here (start_of-started n before) (start_here-started n e.event) ∙ or_here-map (started n before) (started_here n e.event)
 
@@ -99,6 +101,13 @@ own-run (e ∷ before) l n st f = go (started n before) refl f (λ x k. own-run 
 
 -- what becomes known leaves the rest of a record
 module _ (m : ℕ) (r : KeptOperation) where
+  pub req-ranked : (ranked_if_queried m r).req ≡ r.req
+  req-ranked = go (not r.ranked && list_all (is_queried m) r.levels)
+    where
+      go : (b : Bool) → (cond b (record r { ranked = true; levels = ranked_levels 1 r.levels }) r).req ≡ r.req
+      go true = refl
+      go false = refl
+
   pub moment-ranked : (ranked_if_queried m r).moment ≡ r.moment
   moment-ranked = go (not r.ranked && list_all (is_queried m) r.levels)
     where
@@ -120,9 +129,18 @@ module _ (m : ℕ) (r : KeptOperation) where
       go true = refl
       go false = refl
 
-not-true : (b : Bool) → not b ≡ true → b ≡ false
-not-true true e = cc
-not-true false e = refl
+  pub untried-ranked : (ranked_if_queried m r).untried ≡ r.untried
+  untried-ranked = go (not r.ranked && list_all (is_queried m) r.levels)
+    where
+      go : (b : Bool) → (cond b (record r { ranked = true; levels = ranked_levels 1 r.levels }) r).untried ≡ r.untried
+      go true = refl
+      go false = refl
+
+  pub enough-ranked : left_levels r.levels ≤ r.untried → left_levels (ranked_if_queried m r).levels ≤ (ranked_if_queried m r).untried
+  enough-ranked le =
+      let left : left_levels (ranked_if_queried m r).levels ≡ left_levels r.levels = left-ranked m r in
+      let untried : (ranked_if_queried m r).untried ≡ r.untried = untried-ranked in
+      omega (arith, left, untried, le)
 
 -- the exit of a run that is alive
 module _ (h : History) (l : Lawful h) (m : ℕ) (run : Run) (exit : Exit) (listed : Bool) (few : length h + 1 < 2 ^ 32) (alive : is_alive run.0 h ≡ true) where
@@ -136,13 +154,15 @@ module _ (h : History) (l : Lawful h) (m : ℕ) (run : Run) (exit : Exit) (liste
       let few_acts : AreFew (acts o.req h) = (let k : length (acts o.req h) ≤ length h = acts-few o.req h in omega (arith, k, few)) in
       let last : last_run st.slot (acts o.req h) ≡ Last.Alive run.0 = alive_is_last h l o.req run.0 st.slot f (not-true (has_exit run.0 h) (and-right (is_some (started run.0 h)) (not (has_exit run.0 h)) alive)) in
       let next : IsOperation m (Act.Ended m st.slot exit listed ∷ acts o.req h) (operation_ended st.slot exit listed m r) o =
-      operation-ended o m st.slot exit listed (acts o.req h) few_acts r (λ u. run-query run.0 (acts o.req h) st.slot (now.unranked u).queried f) (alive-late o m (acts o.req h) r now st.slot run.0 last) now in
+      operation-ended o m st.slot exit listed (acts o.req h) few_acts (last_begun st.slot (acts o.req h)) (alive-last (acts o.req h) st.slot run.0 last) r (λ u. run-query run.0 (acts o.req h) st.slot (now.unranked u).queried f) (alive-late o m (acts o.req h) r now st.slot run.0 last) now in
       let levels_after : KeptOperation = record r { levels = map (level_ended st.slot exit listed r.over m) r.levels } in
       let kept : IsKept (Act.Ended m st.slot exit listed ∷ acts o.req h) (unanswered o.req h) (is_confirmed o h) (operation_ended st.slot exit listed m r) o =
       record {
         operation = subst (λ n. IsOperation n (Act.Ended m st.slot exit listed ∷ acts o.req h) (operation_ended st.slot exit listed m r) o) (sym (moment-ranked m levels_after ∙ at)) next;
         waiting_are = ap numbers (members-ranked m levels_after) ∙ s.waiting_are;
         confirmed_is = confirmed-ranked m levels_after ∙ s.confirmed_is;
+        untried_is = untried-ranked m levels_after ∙ s.untried_is;
+        enough = enough-ranked m levels_after (let le : left_levels r.levels ≤ r.untried = s.enough in let same : left_levels levels_after.levels ≡ left_levels r.levels = left-ended st.slot exit listed r.over m r.levels in omega (arith, le, same));
       } in
       subst (λ xs. IsKept xs (unanswered o.req h) (is_confirmed o h) (operation_ended st.slot exit listed m r) o) (sym (acts-exit o.req m run exit listed st.slot h f)) kept
 
@@ -167,9 +187,9 @@ module _ (h : History) (l : Lawful h) (m : ℕ) (run : Run) (exit : Exit) (liste
   ended-all st e (r ∷ rs) [] z a = absurd z
   ended-all st e (r ∷ rs) (o ∷ os) z a = (ended-of st e r o z.0 a.0, ended-all st e rs os z.1 a.1)
 
-  pub stands-ended : (rs : List KeptOperation) → StandsFor rs h → AreAt m rs → StandsFor (ended (start_of run.0 h) exit listed m rs) after
-  stands-ended rs z a = subst (λ x. StandsFor (ended x exit listed m rs) after) (sym (start_of-started run.0 h)) (go (started run.0 h) refl (and-left (is_some (started run.0 h)) (not (has_exit run.0 h)) alive))
+  pub stands-ended : (rs : List KeptOperation) → StandEach rs h → AreAt m rs → StandEach (ended (start_of run.0 h) exit listed m rs) after
+  stands-ended rs z a = subst (λ x. StandEach (ended x exit listed m rs) after) (sym (start_of-started run.0 h)) (go (started run.0 h) refl (and-left (is_some (started run.0 h)) (not (has_exit run.0 h)) alive))
     where
-      go : (x : Option Started) → started run.0 h ≡ x → is_some x ≡ true → StandsFor (ended (option_map run_start x) exit listed m rs) after
+      go : (x : Option Started) → started run.0 h ≡ x → is_some x ≡ true → StandEach (ended (option_map run_start x) exit listed m rs) after
       go None k g = cc
       go (Some st) k g = ended-all st k rs (open_operations h) z a

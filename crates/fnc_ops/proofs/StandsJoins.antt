@@ -16,7 +16,7 @@ use Rattle.fnc_ops.specs.KeptOperation.{KeptOperation}
 use Rattle.fnc_ops.specs.SlotFacts.{BothOr}
 use Rattle.fnc_ops.specs.OperationRecords.{standing_slot, is_joinable}
 use Rattle.fnc_ops.specs.OpsRecords.{joinable}
-use Rattle.fnc_ops.specs.Stands.{Stands, StandsFor, AreAt}
+use Rattle.fnc_ops.specs.Stands.{Stands, StandEach, AreAt}
 use Rattle.fnc_ops.proofs.OperationAnswers.{IsShortSlot, standing_slot_is}
 
 on_of : (o : Operation) (h : History) (x : Option SlotRecord) (y : Option Task) → BothOr (IsShortSlot o (acts o.req h)) x y →
@@ -50,7 +50,7 @@ number_of : (x : Option KeptOperation) → option_map (λ (r : Req). r.0) (optio
 number_of None = refl
 number_of (Some o) = refl
 
-pub joined_is : (rs : List KeptOperation) (h : History) (m : ℕ) (kind : Kind) (target : List ℕ) (x : Option Req) → x ≡ joinable kind target rs → AreAt m rs → StandsFor rs h →
+pub joined_is : (rs : List KeptOperation) (h : History) (m : ℕ) (kind : Kind) (target : List ℕ) (x : Option Req) → x ≡ joinable kind target rs → AreAt m rs → StandEach rs h →
     option_map (λ (r : Req). r.0) x ≡ option_map (λ (o : Operation). o.req) (joined h m kind target)
 joined_is rs h m kind target x e a z =
     ap (option_map (λ (r : Req). r.0)) e ∙ number_of (find (is_joinable kind target) rs) ∙ joined_among h m kind target rs (open_operations h) z a

@@ -7,7 +7,7 @@ use Rattle.fnc_journal.specs.History.{History}
 use Rattle.fnc_journal.specs.Slots.{Task, Operation}
 use Rattle.fnc_journal.specs.Acts.{acts, end}
 use Rattle.fnc_journal.specs.Operations.{open_operations, stands_at}
-use Rattle.fnc_ops.specs.declared.ops.Expiry.{Expiry}
+use Rattle.fnc_ops.specs.declared.records.Expiry.{Expiry}
 use Rattle.fnc_ops.specs.declared.slot.SlotRecord.{SlotRecord}
 use Rattle.fnc_ops.specs.KeptOperation.{KeptOperation}
 use Rattle.fnc_ops.specs.SlotFacts.{BothOr}
@@ -15,10 +15,10 @@ use Rattle.fnc_ops.specs.SlotRecords.{come_by}
 use Rattle.fnc_ops.specs.OperationFacts.{IsOperation}
 use Rattle.fnc_ops.specs.OperationRecords.{at_moment, only, standing_slot}
 use Rattle.fnc_ops.specs.OpsRecords.{expiry_by, expiry_of, sooner, first_expiry, first_expired, moved}
-use Rattle.fnc_ops.specs.Stands.{Stands, StandsFor, AreAt, AreBy, Ending, ending, ending_of, sooner_ending, first_ending, first_ended, numbers}
+use Rattle.fnc_ops.specs.Stands.{Stands, StandEach, AreAt, AreBy, Ending, ending, ending_of, sooner_ending, first_ending, first_ended, numbers}
 use Rattle.fnc_ops.proofs.OperationAnswers.{IsShortSlot, standing_slot_is}
 use Rattle.fnc_ops.proofs.OperationSteps.{operation-later}
-use Rattle.fnc_ops.proofs.StandsExits.{moment-ranked, members-ranked, confirmed-ranked}
+use Rattle.fnc_ops.proofs.StandsExits.{moment-ranked, members-ranked, confirmed-ranked, untried-ranked, enough-ranked}
 
 -- the first that has come to its end
 abbrev shown : Expiry → Ending
@@ -53,7 +53,7 @@ first-is h m [] (o ∷ os) z = absurd z
 first-is h m (r ∷ rs) [] z = absurd z
 first-is h m (r ∷ rs) (o ∷ os) z = sooner-shown (expiry_of m r) (first_expiry m rs) ∙ ap₂ sooner_ending (ending-is h m r o z.0) (first-is h m rs os z.1)
 
-pub first-expired : (h : History) (m : ℕ) (rs : List KeptOperation) (x : Option Req) → x ≡ first_expired m rs → StandsFor rs h → option_map (λ (r : Req). r.0) x ≡ first_ended h m rs
+pub first-expired : (h : History) (m : ℕ) (rs : List KeptOperation) (x : Option Req) → x ≡ first_expired m rs → StandEach rs h → option_map (λ (r : Req). r.0) x ≡ first_ended h m rs
 first-expired h m rs x e z = ap (option_map (λ (r : Req). r.0)) e ∙ go (first_expiry m rs) ∙ ap (option_map (λ (e : Ending). e.req)) (first-is h m rs (open_operations h) z)
   where
     go : (y : Option Expiry) → option_map (λ (r : Req). r.0) (option_map (λ (e : Expiry). e.req) y) ≡ option_map (λ (e : Ending). e.req) (option_map shown y)
@@ -66,6 +66,8 @@ later-one h m r o le s = record {
   operation = subst (λ n. IsOperation n (acts o.req h) (at_moment m r) o) (sym (moment-ranked m (record r { moment = m }))) (operation-later o r.moment m (acts o.req h) le r s.operation);
   waiting_are = ap numbers (members-ranked m (record r { moment = m })) ∙ s.waiting_are;
   confirmed_is = confirmed-ranked m (record r { moment = m }) ∙ s.confirmed_is;
+  untried_is = untried-ranked m (record r { moment = m }) ∙ s.untried_is;
+  enough = enough-ranked m (record r { moment = m }) s.enough;
 }
 
 later-of : (h : History) (m req : ℕ) (r : KeptOperation) (o : Operation) → r.moment ≤ m → Stands h r o → Stands h (only req (at_moment m) r) o
@@ -82,7 +84,7 @@ later-each h m f k [] (o ∷ os) a z = absurd z
 later-each h m f k (r ∷ rs) [] a z = absurd z
 later-each h m f k (r ∷ rs) (o ∷ os) a z = (k r o a.0 z.0, later-each h m f k rs os a.1 z.1)
 
-pub stands-moved : (h : History) (m : ℕ) (rs : List KeptOperation) (x : Option Req) → AreBy m rs → StandsFor rs h → StandsFor (moved x m rs) h
+pub stands-moved : (h : History) (m : ℕ) (rs : List KeptOperation) (x : Option Req) → AreBy m rs → StandEach rs h → StandEach (moved x m rs) h
 stands-moved h m rs None a z = later-each h m (at_moment m) (later-one h m) rs (open_operations h) a z
 stands-moved h m rs (Some req) a z = later-each h m (only req.0 (at_moment m)) (later-of h m req.0) rs (open_operations h) a z
 

@@ -8,7 +8,7 @@ use Rattle.fnc_journal.specs.History.{History}
 use Rattle.fnc_journal.specs.Missing.{has_any, first_of}
 use Rattle.fnc_journal.specs.Found.{is_answered}
 use Rattle.fnc_journal.specs.Slots.{Operation}
-use Rattle.fnc_journal.specs.Acts.{acts}
+use Rattle.fnc_journal.specs.Acts.{Act, acts}
 use Rattle.fnc_journal.specs.Operations.{operation, operations, open_operations, unanswered, requests, is_open}
 use Rattle.fnc_journal.specs.Lawful.{Lawful}
 use Rattle.fnc_journal.proofs.Each.{filter-same, filter-or, each-filter}
@@ -20,8 +20,11 @@ use Rattle.fnc_ops.specs.OperationFacts.{IsOperation}
 use Rattle.fnc_ops.specs.OperationRecords as OperationRecords
 use Rattle.fnc_ops.specs.OperationRecords.{only, rest_of, is_waiting}
 use Rattle.fnc_ops.specs.OpsRecords as OpsRecords
-use Rattle.fnc_ops.specs.OpsRecords.{is_of}
-use Rattle.fnc_ops.specs.Stands.{Stands, StandsFor, numbers, reply_entry, next_of}
+use Rattle.fnc_ops.specs.OpsRecords.{is_of, waiting}
+use Rattle.fnc_ops.specs.Stands.{Stands, StandEach, AreAt, numbers, reply_entry, next_of}
+use Rattle.fnc_ops.proofs.OpenOperations.{each-open}
+use Rattle.fnc_ops.proofs.Searches.{found-passes}
+use Rattle.fnc_ops.proofs.Waits.{at-map, moment-only, waiting-only, waiting-kept}
 use Rattle.fnc_ops.proofs.Zip.{zip_map, zip_filter}
 
 -- a test of the numbers is a test of the operations
@@ -62,9 +65,27 @@ waiting_is : (ms : List Req) → has_any ms ≡ has_any (numbers ms)
 waiting_is [] = refl
 waiting_is (m ∷ ms) = refl
 
+-- who waits is no matter of what the acts say
+pub operation-members : (m : ℕ) (xs : List Act) (r : KeptOperation) (o : Operation) (members : List Req) → IsOperation m xs r o → IsOperation m xs (record r { members = members }) o
+operation-members m xs r o members i = record {
+  req = i.req;
+  kind = i.kind;
+  target = i.target;
+  begin = i.begin;
+  over = i.over;
+  past = i.past;
+  turns = i.turns;
+  distinct = i.distinct;
+  levels_distinct = i.levels_distinct;
+  queries_are = i.queries_are;
+  ranks_are = i.ranks_are;
+  ranked_is = i.ranked_is;
+  unranked = i.unranked;
+}
+
 -- a reply to the least request of an operation
 stands-rest : (rs : List KeptOperation) (h : History) → Lawful h → (p m : ℕ) (req : Req) (answer : Answer) (rest : List ℕ) → IsLed h p req.0 → unanswered p h ≡ req.0 ∷ rest →
-    StandsFor rs h → StandsFor (OpsRecords.replied p rs) (reply_entry m req answer ∷ h)
+    StandEach rs h → StandEach (OpsRecords.replied p rs) (reply_entry m req answer ∷ h)
 stands-rest rs h l p m req answer rest led first z =
     subst (λ os. AllZip (Stands (reply_entry m req answer ∷ h)) (filter is_waiting (map (only p OperationRecords.replied) rs)) os) (sym (open-reply h m req answer))
     (zip_filter _ is_waiting (λ (o : Operation). is_open o.req (reply_entry m req answer ∷ h)) waits _ _ (zip_map _ _ (only p OperationRecords.replied) each rs (open_operations h) z))
@@ -72,27 +93,13 @@ stands-rest rs h l p m req answer rest led first z =
     waits : (r : KeptOperation) (o : Operation) → Stands (reply_entry m req answer ∷ h) r o → is_waiting r ≡ is_open o.req (reply_entry m req answer ∷ h)
     waits r o s = waiting_is r.members ∙ ap has_any s.waiting_are
 
-    kept : (r : KeptOperation) (o : Operation) → IsOperation r.moment (acts o.req h) r o → IsOperation r.moment (acts o.req h) (OperationRecords.replied r) o
-    kept r o i = record {
-      req = i.req;
-      kind = i.kind;
-      target = i.target;
-      begin = i.begin;
-      over = i.over;
-      distinct = i.distinct;
-      queries_are = i.queries_are;
-      ranks_are = i.ranks_are;
-      ranked_is = i.ranked_is;
-      unranked = i.unranked;
-    }
-
     go : (r : KeptOperation) (o : Operation) (b : Bool) → (o.req == p) ≡ b → Stands h r o → Stands (reply_entry m req answer ∷ h) (cond b (OperationRecords.replied r) r) o
     go r o true k s =
         let same : o.req ≡ p = eqb-true o.req p k in
         let now : unanswered o.req (reply_entry m req answer ∷ h) ≡ rest = ap (λ n. unanswered n (reply_entry m req answer ∷ h)) same ∙ unanswered-reply h l p m req.0 answer rest first in
-        record { operation = kept r o s.operation; waiting_are = rest_numbers r.members req.0 rest (s.waiting_are ∙ ap (λ n. unanswered n h) same ∙ first) ∙ sym now; confirmed_is = s.confirmed_is }
+        record { operation = operation-members r.moment (acts o.req h) r o (rest_of r.members) s.operation; waiting_are = rest_numbers r.members req.0 rest (s.waiting_are ∙ ap (λ n. unanswered n h) same ∙ first) ∙ sym now; confirmed_is = s.confirmed_is; untried_is = s.untried_is; enough = s.enough }
     go r o false k s =
-        record { operation = s.operation; waiting_are = s.waiting_are ∙ sym (unanswered-other_reply h l o.req p m req answer led (false-eqb o.req p (sym k))); confirmed_is = s.confirmed_is }
+        record { operation = s.operation; waiting_are = s.waiting_are ∙ sym (unanswered-other_reply h l o.req p m req answer led (false-eqb o.req p (sym k))); confirmed_is = s.confirmed_is; untried_is = s.untried_is; enough = s.enough }
 
     each : (r : KeptOperation) (o : Operation) → Stands h r o → Stands (reply_entry m req answer ∷ h) (only p OperationRecords.replied r) o
     each r o s =
@@ -119,21 +126,16 @@ next_among h p (r ∷ rs) (o ∷ os) z =
     go true e = first_numbers r.members ∙ ap first_of z.0.waiting_are
     go false e = e
 
-pub next_is : (rs : List KeptOperation) (h : History) (p : ℕ) (x : Option Req) → x ≡ OpsRecords.first_member p rs → StandsFor rs h → option_map (λ (r : Req). r.0) x ≡ next_of h p
+pub next_is : (rs : List KeptOperation) (h : History) (p : ℕ) (x : Option Req) → x ≡ OpsRecords.first_member p rs → StandEach rs h → option_map (λ (r : Req). r.0) x ≡ next_of h p
 next_is rs h p x e z = ap (option_map (λ (r : Req). r.0)) e ∙ next_among h p rs (open_operations h) z
+
+true-false : (b : Bool) → b ≡ true → b ≡ false → ⊥
+true-false b e f = cc
 
 -- so its operation has it as the first
 abbrev tail : List ℕ → List ℕ
 tail [] = []
 tail (n ∷ ns) = ns
-
-found-test : (p : Operation → Bool) (xs : List Operation) (x : Operation) → find p xs ≡ Some x → p x ≡ true
-found-test p [] x e = cc
-found-test p (y ∷ ys) x e = go (p y) refl e (λ k. found-test p ys x k)
-  where
-    go : (b : Bool) → p y ≡ b → cond b (Some y) (find p ys) ≡ Some x → (find p ys ≡ Some x → p x ≡ true) → p x ≡ true
-    go true k f ih = let same : y ≡ x = cc in subst (λ w. p w ≡ true) same k
-    go false k f ih = ih f
 
 head_is : (ns : List ℕ) (n : ℕ) → first_of ns ≡ Some n → ns ≡ n ∷ tail ns
 head_is [] n e = cc
@@ -145,13 +147,35 @@ next-first h p n e = go (find (λ (o : Operation). o.req == p) (open_operations 
     go : (x : Option Operation) → find (λ (o : Operation). o.req == p) (open_operations h) ≡ x → option_and_then (λ (o : Operation). first_of (unanswered o.req h)) x ≡ Some n → unanswered p h ≡ n ∷ tail (unanswered p h)
     go None k f = cc
     go (Some o) k f =
-        let same : o.req ≡ p = eqb-true o.req p (found-test (λ (o : Operation). o.req == p) (open_operations h) o k) in
+        let same : o.req ≡ p = eqb-true o.req p (found-passes (λ (o : Operation). o.req == p) (open_operations h) o k) in
         head_is (unanswered p h) n (ap (λ q. first_of (unanswered q h)) (sym same) ∙ f)
 
 pub stands-replied : (rs : List KeptOperation) (h : History) → Lawful h → (p m : ℕ) (req : Req) (answer : Answer) → next_of h p ≡ Some req.0 →
-    StandsFor rs h → StandsFor (OpsRecords.replied p rs) (reply_entry m req answer ∷ h)
+    StandEach rs h → StandEach (OpsRecords.replied p rs) (reply_entry m req answer ∷ h)
 stands-replied rs h l p m req answer e z =
     let first : unanswered p h ≡ req.0 ∷ tail (unanswered p h) = next-first h p req.0 e in
     let each : AllByRecursion (IsLed h p) (unanswered p h) = each-filter (IsLed h p) (λ r. not (is_answered r h)) (requests p h) (requests-led h l p) in
     let led : IsLed h p req.0 × AllByRecursion (IsLed h p) (tail (unanswered p h)) = subst (AllByRecursion (IsLed h p)) first each in
     stands-rest rs h l p m req answer (tail (unanswered p h)) led.0 first z
+
+-- the record of an operation without requests goes, and of the others each has one
+replied-wait : (rs : List KeptOperation) (h : History) (p : ℕ) (os : List Operation) → AllByRecursion (λ (o : Operation). is_open o.req h ≡ true) os → AllZip (Stands h) rs os →
+    AllByRecursion (λ (r : KeptOperation). (r.req == p) ≡ false → is_waiting r ≡ true) (map (only p OperationRecords.replied) rs)
+replied-wait [] h p [] a z = tt
+replied-wait [] h p (o ∷ os) a z = absurd z
+replied-wait (r ∷ rs) h p [] a z = absurd z
+replied-wait (r ∷ rs) h p (o ∷ os) a z = (go (r.req == p) refl, replied-wait rs h p os a.1 z.1)
+  where
+    go : (b : Bool) → (r.req == p) ≡ b → ((cond b (OperationRecords.replied r) r).req == p) ≡ false → is_waiting (cond b (OperationRecords.replied r) r) ≡ true
+    go true e f = absurd (true-false (r.req == p) e f)
+    go false e f = waiting_is r.members ∙ ap has_any z.0.waiting_are ∙ a.0
+
+pub waiting-replied : (rs : List KeptOperation) (h : History) (p n : ℕ) → (n == p) ≡ false → StandEach rs h → waiting n (OpsRecords.replied p rs) ≡ waiting n rs
+waiting-replied rs h p n other z =
+    waiting-kept (map (only p OperationRecords.replied) rs) n p other (replied-wait rs h p (open_operations h) (each-open h) z)
+    ∙ waiting-only p OperationRecords.replied (λ r. refl) n other rs
+
+pub at-replied : (rs : List KeptOperation) (p m : ℕ) → AreAt m rs → AreAt m (OpsRecords.replied p rs)
+at-replied rs p m a =
+    each-filter (λ (r : KeptOperation). r.moment ≡ m) is_waiting (map (only p OperationRecords.replied) rs)
+    (at-map m (only p OperationRecords.replied) (moment-only p OperationRecords.replied (λ r. refl)) rs a)

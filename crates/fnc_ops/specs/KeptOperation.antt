@@ -4,7 +4,8 @@ use Rattle.fnc_journal.specs.declared.entry.Kind.{Kind}
 use Rattle.fnc_journal.specs.declared.entry.Req.{Req}
 use Rattle.fnc_ops.specs.KeptLevel.{KeptLevel}
 
--- what never changes, the moment at which the record speaks, what is known by then, and who waits
+-- what never changes, the moment at which the record speaks, what is known by then, how many allowed tries were
+-- not started yet, and who waits
 pub record KeptOperation : Type 0 where
   pub req : ℕ
   pub kind : Kind
@@ -14,5 +15,6 @@ pub record KeptOperation : Type 0 where
   pub moment : ℕ
   pub confirmed : Bool
   pub ranked : Bool
+  pub untried : ℕ
   pub levels : List KeptLevel
   pub members : List Req

@@ -4,7 +4,10 @@ pub mod KeptLevel
 pub mod LevelRecords
 pub mod LevelFacts
 pub mod KeptOperation
+pub mod Kept
 pub mod OperationRecords
 pub mod OperationFacts
+pub mod FreshRecords
 pub mod OpsRecords
 pub mod Stands
+pub mod PlanTries

@@ -1,5 +1,5 @@
 -- What the record of an operation says.
-use Rattle.std.specs.Prelude.{ℕ, List, [], ◌∷◌, Bool, ◌&&◌, not, nat_le, if◌then◌else◌, find, Option, Some, None, option_map, option_and_then, true, map, bytes_eq, ◌==◌, unwrap_or, false}
+use Rattle.std.specs.Prelude.{ℕ, List, [], ◌∷◌, ◌++◌, ◌-◌, Bool, ◌&&◌, not, nat_le, if◌then◌else◌, find, Option, Some, None, option_map, option_and_then, true, map, bytes_eq, ◌==◌, unwrap_or, false}
 use Rattle.std.specs.List.{list_any, list_all}
 use Rattle.std.specs.Option.{option_or}
 use Rattle.fnc_journal.specs.declared.entry.Answer.{Answer}
@@ -8,6 +8,7 @@ use Rattle.fnc_journal.specs.declared.entry.Req.{Req}
 use Rattle.fnc_journal.specs.declared.entry.Slot.{Slot}
 use Rattle.fnc_journal.specs.Device.{cuts_power}
 use Rattle.fnc_ops.specs.declared.operation.Standing.{Standing}
+use Rattle.fnc_ops.specs.declared.slot.LastRun.{LastRun}
 use Rattle.fnc_ops.specs.declared.slot.SlotRecord.{SlotRecord}
 use Rattle.fnc_ops.specs.KeptLevel.{KeptLevel}
 use Rattle.fnc_ops.specs.KeptOperation.{KeptOperation}
@@ -52,6 +53,19 @@ standing_at since over s = record { slot = s.slot; reg = s.reg; kind = s.kind; a
 -- where the operation stands
 abbrev pub standing : ℕ → KeptOperation → Option Standing
 standing m o = option_map (standing_at (since m o) o.over) (standing_slot m o)
+
+-- whether no run is alive
+abbrev pub is_idle : LastRun → Bool
+is_idle (LastRun.Alive at) = false
+is_idle _ = true
+
+-- what is told of a slot of which no run is alive
+abbrev pub waiting_at : ℕ → ℕ → SlotRecord → Option Standing
+waiting_at since over s = if is_idle s.last then Some (standing_at since over s) else None
+
+-- the try that the operation waits for: of the slot at which it stands, where no run of that is alive
+abbrev pub waiting : KeptOperation → Option Standing
+waiting o = option_and_then (waiting_at (since o.moment o) o.over) (standing_slot o.moment o)
 
 -- the end of the standing slot's action, where that has come
 abbrev pub expired_at : ℕ → KeptOperation → Option ℕ
@@ -104,7 +118,7 @@ at_moment m o = ranked_if_queried m (record o { moment = m })
 
 -- after a start of one of the operation's runs
 abbrev pub operation_started : Slot → ℕ → KeptOperation → KeptOperation
-operation_started s m o = record o { levels = map (level_started s m) o.levels }
+operation_started s m o = record o { levels = map (level_started s m) o.levels; untried = o.untried - 1 }
 
 -- after a start of the slot at which it stands
 abbrev pub started_at : ℕ → Option SlotRecord → KeptOperation → KeptOperation
@@ -125,6 +139,10 @@ operation_ended s exit listed m o = ranked_if_queried m (record o { levels = map
 -- after an operator's word that a target is down
 abbrev pub operation_confirmed : List ℕ → KeptOperation → KeptOperation
 operation_confirmed target o = if bytes_eq target o.target then record o { confirmed = true } else o
+
+-- with one more request that waits
+abbrev pub with_member : Req → KeptOperation → KeptOperation
+with_member req o = record o { members = o.members ++ req ∷ [] }
 
 -- the requests without the first
 abbrev pub rest_of : List Req → List Req

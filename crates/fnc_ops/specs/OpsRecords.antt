@@ -1,18 +1,20 @@
 -- What the records of all operations say.
-use Rattle.std.specs.Prelude.{ℕ, List, [], ◌∷◌, Bool, ◌==◌, find, Option, Some, None, option_and_then, map, filter, if◌then◌else◌, nat_lt, option_map}
+use Rattle.std.specs.Prelude.{ℕ, List, [], ◌∷◌, Bool, ◌==◌, find, Option, Some, None, option_and_then, map, filter, if◌then◌else◌, nat_lt, option_map, ◌+◌, ◌≡◌, false, ◌*◌, length}
 use Rattle.std.specs.Option.{option_or}
 use Rattle.fnc_journal.specs.declared.entry.Answer.{Answer}
 use Rattle.fnc_ops.specs.declared.operation.Standing.{Standing}
 use Rattle.fnc_ops.specs.declared.ops.Due.{Due}
 use Rattle.fnc_ops.specs.KeptOperation.{KeptOperation}
+use Rattle.fnc_ops.specs.Kept.{Kept}
+use Rattle.fnc_ops.specs.SlotRecords.{capped}
 use Rattle.fnc_ops.specs.OperationRecords as OperationRecords
 use Rattle.fnc_journal.specs.declared.entry.Event.{Event}
 use Rattle.fnc_journal.specs.declared.entry.Exit.{Exit}
 use Rattle.fnc_journal.specs.declared.entry.Req.{Req}
 use Rattle.fnc_journal.specs.History.{History}
 use Rattle.fnc_journal.specs.Found.{first_found}
-use Rattle.fnc_ops.specs.declared.ops.RunStart.{RunStart}
-use Rattle.fnc_ops.specs.declared.ops.Expiry.{Expiry}
+use Rattle.fnc_ops.specs.declared.run_start.RunStart.{RunStart}
+use Rattle.fnc_ops.specs.declared.records.Expiry.{Expiry}
 use Rattle.fnc_journal.specs.declared.entry.Kind.{Kind}
 
 -- whether it is the operation of a number
@@ -22,6 +24,18 @@ is_of req o = o.req == req
 -- where the operation of a number stands, at the moment at which its record speaks
 abbrev pub standing : ℕ → List KeptOperation → Option Standing
 standing req os = option_and_then (λ o. OperationRecords.standing o.moment o) (find (is_of req) os)
+
+-- the try that the operation of a number waits for, at the moment at which its record speaks
+abbrev pub waiting : ℕ → List KeptOperation → Option Standing
+waiting req os = option_and_then OperationRecords.waiting (find (is_of req) os)
+
+-- whatever an operation waits for, but for that of a number, it waits for afterwards
+abbrev pub OthersWait : ℕ → Kept → Kept → Type 0
+OthersWait req v w = (n : ℕ) → (n == req) ≡ false → waiting n w.operations ≡ waiting n v.operations
+
+-- whatever an operation waits for, it waits for afterwards
+abbrev pub AllWait : Kept → Kept → Type 0
+AllWait v w = (n : ℕ) → waiting n w.operations ≡ waiting n v.operations
 
 -- the number of an operation with the answer that is due to it
 pub record DueTo : Type 0 where
@@ -50,6 +64,10 @@ first_member req os = option_and_then OperationRecords.first_member (find (is_of
 -- after a reply to it: an operation for which none waits is closed
 abbrev pub replied : ℕ → List KeptOperation → List KeptOperation
 replied req os = filter OperationRecords.is_waiting (map (OperationRecords.only req OperationRecords.replied) os)
+
+-- after a start of the slot at which the operation of a number stands
+abbrev pub started : ℕ → ℕ → Kept → Kept
+started req m v = record { operations = map (OperationRecords.only req (OperationRecords.start_standing m)) v.operations; alive = capped 32 (v.alive + 1) }
 
 -- the operation and the slot of a run, as an entry says
 abbrev pub start_here : ℕ → Event → Option RunStart
@@ -96,3 +114,26 @@ moved (Some req) m os = map (OperationRecords.only req.0 (OperationRecords.at_mo
 -- the first that a request for a target and an action joins
 abbrev pub joinable : Kind → List ℕ → List KeptOperation → Option Req
 joinable kind target os = option_map (λ (o : KeptOperation). record { 0 = o.req }) (find (OperationRecords.is_joinable kind target) os)
+
+-- what an operation owes: a reply to each request that waits, and a start and an exit for each try that was not started
+abbrev pub owed_by : KeptOperation → ℕ
+owed_by o = length o.members + 2 * o.untried
+
+-- what all of them owe
+abbrev pub owed_by_all : List KeptOperation → ℕ
+owed_by_all [] = 0
+owed_by_all (o ∷ os) = owed_by o + owed_by_all os
+
+-- a number with what they owe, as far as it fits
+abbrev pub owed_with : ℕ → List KeptOperation → ℕ
+owed_with n [] = n
+owed_with n (o ∷ os) = owed_with (capped 64 (n + capped 64 (owed_by o))) os
+
+-- with an exit for each run that is alive
+abbrev pub owed : Kept → ℕ
+owed v = v.alive + owed_by_all v.operations
+
+-- after a request has joined the operation of a number
+abbrev pub joined : ℕ → Req → List KeptOperation → List KeptOperation
+joined operation req [] = []
+joined operation req (o ∷ os) = if o.req == operation then OperationRecords.with_member req o ∷ os else o ∷ joined operation req os

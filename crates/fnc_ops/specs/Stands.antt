@@ -1,5 +1,5 @@
 -- When the records of the open operations stand for a journal, and what they are then asked for.
-use Rattle.std.specs.Prelude.{ℕ, List, ◌≡◌, ◌==◌, Bool, true, map, find, Option, Some, None, unwrap_or, option_map, option_and_then, [], ◌∷◌, ◌≤◌, nat_lt, if◌then◌else◌}
+use Rattle.std.specs.Prelude.{ℕ, List, ◌≡◌, ◌==◌, Bool, true, map, find, Option, Some, None, option_map, option_and_then, [], ◌∷◌, ◌≤◌, nat_lt, if◌then◌else◌, length, ◌+◌}
 use Rattle.std.specs.List.{AllZip, AllByRecursion}
 use Rattle.fnc_journal.specs.declared.entry.Entry.{Entry}
 use Rattle.fnc_journal.specs.declared.entry.Event.{Event}
@@ -7,17 +7,26 @@ use Rattle.fnc_journal.specs.declared.entry.Kind.{Kind}
 use Rattle.fnc_journal.specs.declared.entry.Reg.{Reg}
 use Rattle.fnc_journal.specs.declared.entry.Req.{Req}
 use Rattle.fnc_journal.specs.declared.entry.Run.{Run}
+use Rattle.fnc_journal.specs.declared.entry.Scope.{Scope}
 use Rattle.fnc_journal.specs.declared.entry.Slot.{Slot}
+use Rattle.fnc_journal.specs.declared.plan.PlanLevel.{PlanLevel}
+use Rattle.fnc_journal.specs.Bounds.{IsBounded}
 use Rattle.fnc_journal.specs.History.{History}
 use Rattle.fnc_journal.specs.Slots.{Task, Operation}
-use Rattle.fnc_journal.specs.Acts.{Act, acts, end}
+use Rattle.fnc_journal.specs.declared.definition.Registration.{Registration}
+use Rattle.fnc_journal.specs.Found.{registration}
+use Rattle.fnc_journal.specs.Standing.{ready}
+use Rattle.fnc_journal.specs.Acts.{Act, acts, end, runs, limit}
 use Rattle.fnc_journal.specs.Due.{is_confirmed}
+use Rattle.fnc_journal.specs.Owed.{untried}
+use Rattle.fnc_journal.specs.Startable.{alive_runs}
 use Rattle.fnc_journal.specs.Operations.{open_operations, unanswered, stands_at, due_to}
 use Rattle.fnc_ops.specs.declared.operation.Standing.{Standing}
 use Rattle.fnc_ops.specs.declared.ops.Due.{Due}
 use Rattle.fnc_ops.specs.KeptOperation.{KeptOperation}
-use Rattle.fnc_ops.specs.OperationFacts.{IsOperation, IsStanding}
-use Rattle.fnc_ops.specs.OpsRecords.{is_of}
+use Rattle.fnc_ops.specs.Kept.{Kept}
+use Rattle.fnc_ops.specs.OperationFacts.{IsOperation, IsStanding, left_levels}
+use Rattle.fnc_ops.specs.SlotFacts.{BothOr}
 use Rattle.fnc_journal.specs.declared.entry.Exit.{Exit}
 use Rattle.fnc_journal.specs.declared.entry.Answer.{Answer}
 use Rattle.fnc_journal.specs.Missing.{first_of}
@@ -32,35 +41,34 @@ pub record IsKept (xs : List Act) (waiting : List ℕ) (confirmed : Bool) (r : K
   pub operation : IsOperation r.moment xs r o
   pub waiting_are : numbers r.members ≡ waiting
   pub confirmed_is : r.confirmed ≡ confirmed
+  pub untried_is : r.untried ≡ untried o xs
+  pub enough : left_levels r.levels ≤ r.untried
 
 -- the record of an operation in a journal
 abbrev pub Stands : History → KeptOperation → Operation → Type 0
 Stands h r o = IsKept (acts o.req h) (unanswered o.req h) (is_confirmed o h) r o
 
 -- the records are those of the operations that are open, in rising order
-abbrev pub StandsFor : List KeptOperation → History → Type 0
-StandsFor rs h = AllZip (Stands h) rs (open_operations h)
+abbrev pub StandEach : List KeptOperation → History → Type 0
+StandEach rs h = AllZip (Stands h) rs (open_operations h)
+
+-- the records of the open operations and the number of runs that are alive are those of a journal
+pub record StandsFor (v : Kept) (h : History) : Type 0 where
+  pub each : StandEach v.operations h
+  pub alive : v.alive ≡ length (alive_runs h)
 
 -- each record speaks at this moment
 abbrev pub AreAt : ℕ → List KeptOperation → Type 0
 AreAt m rs = AllByRecursion (λ r. r.moment ≡ m) rs
-
--- the open operation of a number stands at this slot
-abbrev pub StandsAt : History → ℕ → ℕ → Task → Type 0
-StandsAt h m req t = AllByRecursion (λ o. (o.req == req) ≡ true → stands_at h m o ≡ Some t) (open_operations h)
-
--- the moment at which the record of an operation speaks
-abbrev pub moment_of : ℕ → List KeptOperation → ℕ
-moment_of req rs = unwrap_or (option_map (λ r. r.moment) (find (is_of req) rs)) 0
 
 -- where an operation stands at a moment, if it is open
 abbrev pub IsStandingAtMoment : History → ℕ → Option Standing → Option Operation → Type 0
 IsStandingAtMoment h m s None = s ≡ None
 IsStandingAtMoment h m s (Some o) = IsStanding o m (acts o.req h) s (stands_at h m o)
 
--- where the operation of a number stands
-abbrev pub IsStandingOf : History → ℕ → List KeptOperation → Option Standing → Type 0
-IsStandingOf h req rs s = IsStandingAtMoment h (moment_of req rs) s (find (λ o. o.req == req) (open_operations h))
+-- where the operation of a number stands at a moment
+abbrev pub IsStandingOf : History → ℕ → ℕ → Option Standing → Type 0
+IsStandingOf h m req s = IsStandingAtMoment h m s (find (λ o. o.req == req) (open_operations h))
 
 -- the first answer that is due, and to which operation
 abbrev pub IsFirstDue : History → ℕ → Option Due → Option Operation → Type 0
@@ -68,6 +76,10 @@ IsFirstDue h m None None = Unit {0}
 IsFirstDue h m None (Some o) = ⊥
 IsFirstDue h m (Some d) None = ⊥
 IsFirstDue h m (Some d) (Some o) = (o.req ≡ d.req.0) × (due_to h m o ≡ Some d.answer)
+
+-- each level of a plan has at most 8 devices
+abbrev pub AreFewDevices : List PlanLevel → Type 0
+AreFewDevices ls = AllByRecursion (λ l. length l.devices ≤ 8) ls
 
 -- the entry of a start
 abbrev pub start_entry : ℕ → Run → Req → Slot → Reg → Kind → ℕ → Entry
@@ -122,3 +134,57 @@ first_ending h later (r ∷ rs) (o ∷ os) = sooner_ending (ending_of h r.moment
 -- its number
 abbrev pub first_ended : History → ℕ → List KeptOperation → Option ℕ
 first_ended h later rs = option_map (λ (e : Ending). e.req) (first_ending h later rs (open_operations h))
+
+-- a try that may come next: its slot, and since when it is ready
+pub record Try : Type 0 where
+  pub task : Task
+  pub ready : ℕ
+
+-- of a slot, where its next try is ready from some moment on
+abbrev pub try_ready : Task → Option ℕ → Option Try
+try_ready t None = None
+try_ready t (Some at) = Some (record { task = t; ready = at })
+
+-- of the slot at which an operation stands
+abbrev pub try_at : History → ℕ → Operation → Option Task → Option Try
+try_at h m o None = None
+try_at h m o (Some t) = try_ready t (ready o m (acts o.req h) t)
+
+-- the try that an operation waits for at a moment
+abbrev pub try_of : History → ℕ → Operation → Option Try
+try_of h m o = try_at h m o (stands_at h m o)
+
+-- what is said of the try that an operation waits for
+pub record IsTry (h : History) (o : Operation) (s : Standing) (y : Try) : Type 0 where
+  pub slot : s.slot ≡ y.task.slot
+  pub reg : s.reg.0 ≡ y.task.reg
+  pub kind : s.kind ≡ y.task.kind
+  pub attempt : s.attempt ≡ runs y.task.slot (acts o.req h) + 1
+  pub ready : s.ready ≡ y.ready
+  pub limit : s.limit ≡ limit y.task o.over (acts o.req h)
+
+-- what is said of the try of an operation that may be missing
+abbrev pub IsTryOf : History → ℕ → Option Standing → Option Operation → Type 0
+IsTryOf h m s None = s ≡ None
+IsTryOf h m s (Some o) = BothOr (IsTry h o) s (try_of h m o)
+
+-- the operation of a number is open and waits for this try
+abbrev pub AwaitsTry : History → ℕ → ℕ → Try → Type 0
+AwaitsTry h m req y = option_and_then (try_of h m) (find (λ o. o.req == req) (open_operations h)) ≡ Some y
+
+-- each open operation of a number waits for this try
+abbrev pub EachAwaits : History → ℕ → ℕ → Try → Type 0
+EachAwaits h m req y = AllByRecursion (λ o. (o.req == req) ≡ true → try_of h m o ≡ Some y) (open_operations h)
+
+-- every registration's definition is within its bounds
+abbrev pub AreBounded : History → Type 0
+AreBounded h = (n : ℕ) (r : Registration) → registration n h ≡ Some r → IsBounded r.definition
+
+-- the entry of a request
+abbrev pub ask_entry : ℕ → Req → Req → List ℕ → Kind → List ℕ → ℕ → ℕ → Scope → Entry
+ask_entry m req lead client kind target total coin scope = record { moment = m; event = Event.Ask req lead client kind target total coin scope }
+
+-- how many records speak at an earlier moment
+abbrev pub behind : ℕ → List KeptOperation → ℕ
+behind m [] = 0
+behind m (r ∷ rs) = if nat_lt r.moment m then behind m rs + 1 else behind m rs

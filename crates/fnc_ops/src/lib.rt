@@ -2,10 +2,19 @@
 // Each answer that is read off a record equals the definition's search of the journal.
 #![tactic(auto)]
 
+mod begin;
+mod fresh;
 mod level;
 mod operation;
 mod ops;
+mod planned;
+mod records;
+mod run_start;
 mod slot;
 
 pub use operation::Standing;
-pub use ops::{Due, Ops};
+pub use ops::{Due, Operation, Ops};
+pub use planned::allowed_tries;
+
+#[cfg(test)]
+mod tests;

@@ -1,18 +1,20 @@
 // What is kept of an operation that is open.
 
-ghost use Rattle.std.specs.Prelude.{◌≡◌, find, map, not, option_map};
+ghost use Rattle.std.specs.Prelude.{◌≡◌, find, map, not, option_map, OnOk, OnErr};
 ghost use Rattle.std.specs.List.{list_all, list_any};
 ghost use Rattle.std.specs.Option.{option_copied};
 ghost use Rattle.fnc_journal.specs.Device as Device;
 ghost use Rattle.fnc_journal.specs.Operations as Operations;
 ghost use Rattle.fnc_journal.specs.Same as Same;
 ghost use Rattle.fnc_ops.specs.SlotRecords as SlotRecords;
+ghost use Rattle.fnc_ops.specs.SlotRecords.{capped};
 ghost use Rattle.fnc_ops.specs.LevelRecords as LevelRecords;
 ghost use Rattle.fnc_ops.specs.OperationRecords as OperationRecords;
+ghost use Rattle.fnc_ops.specs.OpsRecords as OpsRecords;
 
 use crate::level::LevelRecord;
 use crate::slot::SlotRecord;
-use fnc_journal::{Answer, Exit, Kind, Phase, Reg, Req, Slot, Text};
+use fnc_journal::{Answer, Exit, Kind, NoMemory, Phase, Reg, Req, Slot, Text};
 use std::marker::Model;
 
 /// Where an operation stands: the slot, with its device's registration and the action that is run there,
@@ -31,7 +33,8 @@ pub struct Standing {
 /// What is kept of an operation. `over` is the moment at which its total is over, `moment` the one at which
 /// the record speaks, `confirmed` whether an operator confirmed since it began that the target is down, and
 /// `members` the requests that wait for its answer, in rising order. `ranked` is whether it is known which
-/// levels are tried: of a plan of candidates once all queries are concluded.
+/// levels are tried: of a plan of candidates once all queries are concluded. `untried` is how many of the
+/// allowed tries of all its slots were not started yet.
 #[derive(Debug, Drop)]
 pub(crate) struct OperationRecord {
     pub req: Req,
@@ -42,6 +45,7 @@ pub(crate) struct OperationRecord {
     pub moment: u64,
     pub confirmed: bool,
     pub ranked: bool,
+    pub untried: u32,
     pub levels: Vec<LevelRecord>,
     pub members: Vec<Req>,
 }
@@ -51,7 +55,7 @@ impl Model for OperationRecord {
 
     ghost Value = { KeptOperation };
 
-    ghost view = { λ o. record { req = o.req.0; kind = o.kind; target = o.target; begin = o.begin; over = o.over; moment = o.moment; confirmed = o.confirmed; ranked = o.ranked; levels = o.levels.items; members = o.members.items } };
+    ghost view = { λ o. record { req = o.req.0; kind = o.kind; target = o.target; begin = o.begin; over = o.over; moment = o.moment; confirmed = o.confirmed; ranked = o.ranked; untried = o.untried; levels = o.levels.items; members = o.members.items } };
 }
 
 /// Whether an action cuts a node's power.
@@ -197,6 +201,22 @@ fn rank(levels: &mut [LevelRecord])
     }
 }
 
+impl SlotRecord {
+    /// What is told of the slot, where an operation that is over at a moment stands here since one.
+    fn told(&self, since: u64, over: u64) -> Standing
+        ensures { result ≡ OperationRecords.standing_at since over self.now }
+    {
+        Standing {
+            slot: self.slot,
+            reg: self.reg,
+            kind: self.kind,
+            attempt: self.attempt(),
+            ready: self.ready(since),
+            limit: self.limit(over),
+        }
+    }
+}
+
 impl OperationRecord {
     fn standing_slot(&self, moment: u64) -> Option<&SlotRecord>
         ensures { option_copied result ≡ OperationRecords.standing_slot moment self.now }
@@ -224,14 +244,7 @@ impl OperationRecord {
     {
         match self.standing_slot(moment) {
             None => None,
-            Some(s) => Some(Standing {
-                slot: s.slot,
-                reg: s.reg,
-                kind: s.kind,
-                attempt: s.attempt(),
-                ready: s.ready(self.since(moment)),
-                limit: s.limit(self.over),
-            }),
+            Some(s) => Some(s.told(self.since(moment), self.over)),
         }
     }
 
@@ -240,6 +253,23 @@ impl OperationRecord {
         ensures { result ≡ OperationRecords.standing self.now.moment self.now }
     {
         self.standing(self.moment)
+    }
+
+    /// The try that the operation waits for, at the moment at which the record speaks. None where it stands
+    /// nowhere, or a run of the slot at which it stands is alive.
+    pub fn waiting(&self) -> Option<Standing>
+        ensures { result ≡ OperationRecords.waiting self.now }
+    {
+        match self.standing_slot(self.moment) {
+            None => None,
+            Some(s) => {
+                if s.last.is_idle() {
+                    Some(s.told(self.since(self.moment), self.over))
+                } else {
+                    None
+                }
+            }
+        }
     }
 
     fn failure_due(&self, moment: u64) -> Option<Answer>
@@ -307,6 +337,14 @@ impl OperationRecord {
         }
     }
 
+    /// A later moment has come.
+    pub fn see_moment(&mut self, moment: u64)
+        ensures { self.new ≡ OperationRecords.at_moment moment self.old }
+    {
+        self.moment = moment;
+        self.rank_if_queried(moment);
+    }
+
     /// The same, where this is the operation.
     pub fn see_moment_of(&mut self, operation: Req, moment: u64)
         ensures { self.new ≡ OperationRecords.only operation.0 (OperationRecords.at_moment moment) self.old }
@@ -316,28 +354,12 @@ impl OperationRecord {
         }
     }
 
-    /// A later moment has come.
-    pub fn see_moment(&mut self, moment: u64)
-        ensures { self.new ≡ OperationRecords.at_moment moment self.old }
-    {
-        self.moment = moment;
-        self.rank_if_queried(moment);
-    }
-
     /// A run of the operation was started.
     pub fn see_start(&mut self, slot: Slot, moment: u64)
         ensures { self.new ≡ OperationRecords.operation_started slot moment self.old }
     {
         see_start(&mut self.levels, slot, moment);
-    }
-
-    /// A run was started of the slot at which the operation stands.
-    fn start_standing(&mut self, moment: u64)
-        ensures { self.new ≡ OperationRecords.start_standing moment self.old }
-    {
-        if let Some(slot) = self.slot_now(moment) {
-            self.see_start(slot, moment);
-        }
+        self.untried = self.untried.saturating_sub(1);
     }
 
     fn slot_now(&self, moment: u64) -> Option<Slot>
@@ -346,6 +368,15 @@ impl OperationRecord {
         match self.standing_slot(moment) {
             Some(s) => Some(s.slot),
             None => None,
+        }
+    }
+
+    /// A run was started of the slot at which the operation stands.
+    fn start_standing(&mut self, moment: u64)
+        ensures { self.new ≡ OperationRecords.start_standing moment self.old }
+    {
+        if let Some(slot) = self.slot_now(moment) {
+            self.see_start(slot, moment);
         }
     }
 
@@ -367,6 +398,15 @@ impl OperationRecord {
         self.rank_if_queried(moment);
     }
 
+    /// The same, where this is the operation.
+    pub fn see_exit_of(&mut self, operation: Req, slot: Slot, exit: Exit, listed: bool, moment: u64)
+        ensures { self.new ≡ OperationRecords.only operation.0 (OperationRecords.operation_ended slot exit listed moment) self.old }
+    {
+        if self.req.0 == operation.0 {
+            self.see_exit(slot, exit, listed, moment);
+        }
+    }
+
     /// An operator said that a target is down.
     pub fn see_confirm(&mut self, target: &str)
         ensures { self.new ≡ OperationRecords.operation_confirmed target.now self.old }
@@ -386,21 +426,30 @@ impl OperationRecord {
     }
 
     /// The same, where this is the operation.
-    pub fn see_exit_of(&mut self, operation: Req, slot: Slot, exit: Exit, listed: bool, moment: u64)
-        ensures { self.new ≡ OperationRecords.only operation.0 (OperationRecords.operation_ended slot exit listed moment) self.old }
-    {
-        if self.req.0 == operation.0 {
-            self.see_exit(slot, exit, listed, moment);
-        }
-    }
-
-    /// The same, where this is the operation.
     pub fn see_reply_of(&mut self, operation: Req)
         ensures { self.new ≡ OperationRecords.only operation.0 OperationRecords.replied self.old }
     {
         if self.req.0 == operation.0 {
             self.see_reply();
         }
+    }
+
+    /// One more request waits for its answer.
+    pub fn join(&mut self, req: Req) -> Result<(), NoMemory>
+        ensures ok { OnOk result (self.new ≡ OperationRecords.with_member req self.old) }
+        ensures err { OnErr result (self.new ≡ self.old) }
+    {
+        self.members.push(req)?;
+        Ok(())
+    }
+
+    /// The entries that it owes: a reply to each request that waits, and a start and an exit for each allowed try
+    /// that was not started.
+    pub fn owed(&self) -> u64
+        ensures { result ≡ capped 64 (OpsRecords.owed_by self.now) }
+    {
+        let tries = u64::from(self.untried);
+        (self.members.len() as u64).saturating_add(2 * tries)
     }
 
     /// Whether a request waits for its answer.

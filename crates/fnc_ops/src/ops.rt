@@ -1,19 +1,29 @@
 // The records of all operations that are open.
 
-ghost use Rattle.std.specs.Prelude.{◌≡◌, ◌∷◌, [], ◌<◌, ◌≤◌, ◌+◌, ◌^◌, ◌==◌, ℕ, List, length, map, find, filter, option_map, true, Some, None};
-ghost use Rattle.std.specs.Option.{option_copied};
+ghost use Rattle.std.specs.Prelude.{◌≡◌, ◌∷◌, [], ◌<◌, ◌≤◌, ◌+◌, ◌-◌, ◌++◌, ◌^◌, ◌==◌, ℕ, List, length, map, find, option_map, true, false, Some, None, OnOk, OnErr, slice_get};
 ghost use Rattle.fnc_journal.specs.History.{History};
-ghost use Rattle.fnc_journal.specs.Slots.{Task};
 ghost use Rattle.fnc_journal.specs.Operations as Operations;
 ghost use Rattle.fnc_ops.specs.OperationRecords as OperationRecords;
 ghost use Rattle.fnc_ops.specs.OpsRecords as OpsRecords;
-ghost use Rattle.fnc_ops.specs.Stands.{StandsFor, AreAt, AreBy, StandsAt, first_ended, IsStandingOf, IsFirstDue, start_entry, exit_entry, reply_entry, confirm_entry, next_of};
-ghost use Rattle.fnc_journal.specs.Missing as Missing;
+ghost use Rattle.fnc_ops.specs.Stands.{StandsFor, AreAt, AreBy, AreBounded, AreFewDevices, first_ended, IsStandingOf, IsTryOf, Try, AwaitsTry, IsFirstDue, behind, ask_entry, start_entry, exit_entry, reply_entry, confirm_entry, next_of};
+ghost use Rattle.fnc_ops.specs.OpsRecords.{OthersWait, AllWait};
+ghost use Rattle.fnc_journal.specs.Found as Found;
+ghost use Rattle.fnc_journal.specs.Found.{Started, starts, asks};
+ghost use Rattle.fnc_journal.specs.Plan as Planned;
+ghost use Rattle.fnc_ops.specs.FreshRecords.{wanted_by};
+ghost use Rattle.fnc_journal.specs.Owed as Owed;
+ghost use Rattle.fnc_journal.specs.Operations.{open_operations, is_open, settled};
 ghost use Rattle.fnc_journal.specs.Lawful.{Lawful};
 ghost use Rattle.fnc_journal.specs.Startable.{is_alive};
 
+use crate::begin::fresh_operation;
 use crate::operation::{OperationRecord, Standing};
-use fnc_journal::{Answer, Event, Exit, Journal, Kind, Reg, Req, Run, Slot};
+use crate::records::{
+    first_due, first_expired, first_member, join, joinable, keep_waiting, owed_with, see_confirm,
+    see_exit, see_moment, see_moment_of, see_reply, see_start, standing_of, waiting_of,
+};
+use crate::run_start::{RunStart, start_of};
+use fnc_journal::{Answer, Exit, Journal, Kind, NoMemory, Plan, Reg, Req, Run, Scope, Slot, Text};
 use std::alloc::Global;
 use std::marker::Model;
 
@@ -24,252 +34,47 @@ pub struct Due {
     pub answer: Answer,
 }
 
-/// The records of the operations that are open, in rising order of their numbers. Contracts see what each of
-/// them keeps.
+/// The records of the operations that are open, in rising order of their numbers, and the number of runs that
+/// are alive. Contracts see what each of them keeps.
 #[derive(Debug, Drop)]
 pub struct Ops {
     records: Vec<OperationRecord>,
+    alive: u32,
 }
 
 impl Model for Ops {
-    ghost use Rattle.std.specs.Prelude.{List};
-    ghost use Rattle.fnc_ops.specs.KeptOperation.{KeptOperation};
+    ghost use Rattle.fnc_ops.specs.Kept.{Kept};
 
-    ghost Value = { List KeptOperation };
+    ghost Value = { Kept };
 
-    ghost view = { λ o. o.records.items };
+    ghost view = { λ o. record { operations = o.records.items; alive = o.alive } };
 }
 
-/// Of which operation and slot a run was started.
-#[derive(Clone, Copy, Debug)]
-struct RunStart {
-    req: Req,
-    slot: Slot,
-}
-
-fn start_here(event: &Event, run: Run) -> Option<RunStart>
-    ensures { result ≡ OpsRecords.start_here run.0 event.now }
-{
-    match event {
-        Event::Start {
-            run: r,
-            req,
-            slot,
-            ..
-        } => {
-            if run.0 == r.0 {
-                Some(RunStart {
-                    req: *req,
-                    slot: *slot,
-                })
-            } else {
-                None
-            }
-        }
-        _ => None,
-    }
-}
-
-fn first_start(earlier: Option<RunStart>, here: Option<RunStart>) -> Option<RunStart>
-    ensures { result ≡ Missing.or_here earlier here }
-{
-    match earlier {
-        Some(start) => Some(start),
-        None => here,
-    }
-}
-
-/// Of which operation and slot the run of a number was started first.
-fn start_of(journal: &Journal, run: Run) -> Option<RunStart>
-    ensures { result ≡ OpsRecords.start_of run.0 journal.now.history }
-{
-    let mut found = None;
-    for index in 0..journal.len() {
-        let here = start_here(&journal.entry(index).event, run);
-        found = first_start(found, here);
-    }
-    found
-}
-
-/// An operation whose standing slot has come to its action's end.
-#[derive(Clone, Copy, Debug)]
-struct Expiry {
-    req: Req,
-    end: u64,
-}
-
-fn expiry_of(operation: &OperationRecord, moment: u64) -> Option<Expiry>
-    ensures { result ≡ OpsRecords.expiry_of moment operation.now }
-{
-    match operation.expired_at(moment) {
-        Some(end) => Some(Expiry {
-            req: operation.req,
-            end,
-        }),
-        None => None,
-    }
-}
-
-/// The sooner of two by that end; of equals the first.
-fn sooner(first: Option<Expiry>, second: Option<Expiry>) -> Option<Expiry>
-    ensures { result ≡ OpsRecords.sooner first second }
-{
-    match (first, second) {
-        (Some(a), Some(b)) => Some(if b.end < a.end { b } else { a }),
-        (Some(a), None) => Some(a),
-        (None, b) => b,
-    }
-}
-
-fn first_expiry(records: &[OperationRecord], moment: u64) -> Option<Expiry>
-    ensures { result ≡ OpsRecords.first_expiry moment records.now }
-{
-    let mut first = None;
-    for record in records {
-        first = sooner(first, expiry_of(record, moment));
-    }
-    first
-}
-
-fn first_expired(records: &[OperationRecord], moment: u64) -> Option<Req>
-    ensures { result ≡ OpsRecords.first_expired moment records.now }
-{
-    match first_expiry(records, moment) {
-        Some(expiry) => Some(expiry.req),
-        None => None,
-    }
-}
-
-fn see_moment(records: &mut [OperationRecord], moment: u64)
-    ensures { records.new ≡ map (OperationRecords.at_moment moment) records.old }
-{
-    for record in records.iter_mut() {
-        record.see_moment(moment);
-    }
-}
-
-fn see_moment_of(records: &mut [OperationRecord], operation: Req, moment: u64)
-    ensures { records.new ≡ map (OperationRecords.only operation.0 (OperationRecords.at_moment moment)) records.old }
-{
-    for record in records.iter_mut() {
-        record.see_moment_of(operation, moment);
-    }
-}
-
-fn find_record(records: &[OperationRecord], operation: Req) -> Option<&OperationRecord>
-    ensures { option_copied result ≡ find (OpsRecords.is_of operation.0) records.now }
-{
-    records.iter().find(|r| r.req.0 == operation.0)
-}
-
-fn standing_of(records: &[OperationRecord], operation: Req) -> Option<Standing>
-    ensures { result ≡ OpsRecords.standing operation.0 records.now }
-{
-    match find_record(records, operation) {
-        Some(record) => record.standing_now(),
-        None => None,
-    }
-}
-
-fn first_joinable<'a>(
-    records: &'a [OperationRecord],
-    target: &str,
-    kind: Kind,
-) -> Option<&'a OperationRecord>
-    ensures { option_copied result ≡ find (OperationRecords.is_joinable kind target.now) records.now }
-{
-    records.iter().find(|r| r.is_joinable(target, kind))
-}
-
-fn joinable(records: &[OperationRecord], target: &str, kind: Kind) -> Option<Req>
-    ensures { result ≡ OpsRecords.joinable kind target.now records.now }
-{
-    match first_joinable(records, target, kind) {
-        Some(record) => Some(record.req),
-        None => None,
-    }
-}
-
-fn first_due(records: &[OperationRecord], moment: u64) -> Option<Due>
-    ensures { OpsRecords.shown result ≡ OpsRecords.first_due moment records.now }
-{
-    for record in records {
-        if let Some(answer) = record.due(moment) {
-            return Some(Due {
-                req: record.req,
-                answer,
-            });
-        }
-    }
-    None
-}
-
-fn see_start(records: &mut [OperationRecord], operation: Req, moment: u64)
-    ensures { records.new ≡ map (OperationRecords.only operation.0 (OperationRecords.start_standing moment)) records.old }
-{
-    for record in records.iter_mut() {
-        record.start_of(operation, moment);
-    }
-}
-
-fn see_confirm(records: &mut [OperationRecord], target: &str)
-    ensures { records.new ≡ map (OperationRecords.operation_confirmed target.now) records.old }
-{
-    for record in records.iter_mut() {
-        record.see_confirm(target);
-    }
-}
-
-fn see_exit(
-    records: &mut [OperationRecord],
-    operation: Req,
-    slot: Slot,
-    exit: Exit,
-    listed: bool,
-    moment: u64,
-)
-    ensures { records.new ≡ map (OperationRecords.only operation.0 (OperationRecords.operation_ended slot exit listed moment)) records.old }
-{
-    for record in records.iter_mut() {
-        record.see_exit_of(operation, slot, exit, listed, moment);
-    }
-}
-
-fn see_reply(records: &mut [OperationRecord], operation: Req)
-    ensures { records.new ≡ map (OperationRecords.only operation.0 OperationRecords.replied) records.old }
-{
-    for record in records.iter_mut() {
-        record.see_reply_of(operation);
-    }
-}
-
-fn keep_waiting(records: &mut Vec<OperationRecord>)
-    ensures { records.new.items ≡ filter OperationRecords.is_waiting records.old.items }
-{
-    records.retain(|r| r.is_waiting());
-}
-
-fn first_member(records: &[OperationRecord], operation: Req) -> Option<Req>
-    ensures { result ≡ OpsRecords.first_member operation.0 records.now }
-{
-    match find_record(records, operation) {
-        Some(record) => record.first_member(),
-        None => None,
-    }
+/// What a request asks for that begins an operation: the action on the target, from the moment on and for the
+/// total time in milliseconds, with the coin that draws its delays.
+#[derive(Debug, Drop)]
+pub struct Operation {
+    pub req: Req,
+    pub target: Text,
+    pub kind: Kind,
+    pub moment: u64,
+    pub total: u64,
+    pub coin: u64,
 }
 
 impl Ops {
     /// No operation.
     pub fn new(alloc: Global) -> Ops
-        ensures { result ≡ [] }
+        ensures { result ≡ record { operations = []; alive = 0 } }
     {
         Ops {
             records: Vec::new(alloc),
+            alive: 0,
         }
     }
 
     fn kept_standing(&self, operation: Req) -> Option<Standing>
-        ensures { result ≡ OpsRecords.standing operation.0 self.now }
+        ensures { result ≡ OpsRecords.standing operation.0 self.now.operations }
     {
         standing_of(&self.records, operation)
     }
@@ -277,13 +82,116 @@ impl Ops {
     /// Where an operation stands, at the moment at which its record speaks. None where it is not open or
     /// stands nowhere.
     pub fn standing(&self, operation: Req) -> Option<Standing>
-        ensures { (h : History) → StandsFor self.now h → IsStandingOf h operation.0 self.now result }
+        ensures { (h : History) (moment : ℕ) → Lawful h → settled h moment ≡ true → AreAt moment self.now.operations → StandsFor self.now h →
+            IsStandingOf h moment operation.0 result }
     {
         self.kept_standing(operation)
     }
 
+    fn kept_waiting(&self, operation: Req) -> Option<Standing>
+        ensures { result ≡ OpsRecords.waiting operation.0 self.now.operations }
+    {
+        waiting_of(&self.records, operation)
+    }
+
+    /// The try that an operation waits for: that of the slot at which it stands, where no run of that is alive.
+    /// None where it is not open, stands nowhere, or a run of the slot is alive.
+    pub fn waiting(&self, operation: Req) -> Option<Standing>
+        ensures value { result ≡ OpsRecords.waiting operation.0 self.now.operations }
+        ensures tries { (h : History) (moment : ℕ) → Lawful h → settled h moment ≡ true → AreAt moment self.now.operations → StandsFor self.now h →
+            IsTryOf h moment result (find (λ o. o.req == operation.0) (open_operations h)) }
+    {
+        self.kept_waiting(operation)
+    }
+
+    /// How many operations are open.
+    pub fn len(&self) -> usize
+        ensures { result ≡ length self.now.operations }
+    {
+        self.records.len()
+    }
+
+    /// The number of an open operation, by its place in rising order.
+    pub fn number(&self, place: usize) -> Req
+        requires { place < length self.now.operations }
+        ensures { Some result.0 ≡ option_map (λ r. r.req) (slice_get self.now.operations place) }
+    {
+        self.records[place].req
+    }
+
+    fn kept_owed(&self) -> u32
+        ensures { OpsRecords.owed self.now < 2 ^ 32 → result ≡ OpsRecords.owed self.now }
+    {
+        let owed = owed_with(&self.records, u64::from(self.alive));
+        u32::try_from(owed).unwrap_or(u32::MAX)
+    }
+
+    fn kept_joined(&mut self, operation: Req, req: Req) -> Result<(), NoMemory>
+        ensures ok { OnOk result (self.new ≡ record self.old { operations = OpsRecords.joined operation.0 req self.old.operations }) }
+        ensures err { OnErr result (self.new ≡ self.old) }
+    {
+        join(&mut self.records, operation, req)
+    }
+
+    /// The entries that are owed for what was accepted: an exit for each run that is alive, a reply to each request
+    /// that waits, and a start and an exit for each allowed try that was not started yet.
+    pub fn owed(&self) -> u32
+        ensures { (h : History) → StandsFor self.now h → Owed.owed h < 2 ^ 32 → result ≡ Owed.owed h }
+    {
+        self.kept_owed()
+    }
+
+    /// A request joins an open operation.
+    pub fn join(&mut self, operation: Req, req: Req) -> Result<(), NoMemory>
+        ensures ok { (h : History) (moment : ℕ) (client : List ℕ) (kind : Kind) (target : List ℕ) (total coin : ℕ) (scope : Scope) →
+            Lawful h → StandsFor self.old h → req.0 ≡ asks h → is_open operation.0 h ≡ true →
+            OnOk result (StandsFor self.new (ask_entry moment req operation client kind target total coin scope ∷ h)) }
+        ensures at { (moment : ℕ) → AreAt moment self.old.operations → AreAt moment self.new.operations }
+        ensures waits { AllWait self.old self.new }
+        ensures err { OnErr result (self.new ≡ self.old) }
+    {
+        self.kept_joined(operation, req)
+    }
+
+    fn kept_begun(&mut self, operation: OperationRecord) -> Result<(), NoMemory>
+        ensures ok { OnOk result (self.new ≡ record self.old { operations = self.old.operations ++ operation ∷ [] }) }
+        ensures err { OnErr result (self.new ≡ self.old) }
+    {
+        self.records.push(operation)?;
+        Ok(())
+    }
+
+    /// An operation begins, with the plan that it has from now on: it is the last of those that are open.
+    pub fn begin(
+        &mut self,
+        alloc: Global,
+        journal: &Journal,
+        operation: Operation,
+        plan: Plan,
+    ) -> Result<(), NoMemory>
+        requires stands { StandsFor self.old journal.now.history }
+        requires lawful { Lawful journal.now.history }
+        requires at { AreAt operation.moment self.old.operations }
+        requires number { operation.req.0 ≡ asks journal.now.history }
+        requires early { operation.moment ≤ 10 ^ 15 }
+        requires short { operation.total ≤ 86_400_000 }
+        requires planned { plan ≡ Planned.plan (wanted_by operation plan.scope) journal.now.history }
+        requires bounded { AreBounded journal.now.history }
+        requires few_candidates { length plan.candidates ≤ 128 }
+        requires few_levels { length plan.levels ≤ 9 }
+        requires few_devices { AreFewDevices plan.levels }
+        ensures ok { (client : List ℕ) → OnOk result (StandsFor self.new
+            (ask_entry operation.moment operation.req operation.req client operation.kind operation.target operation.total operation.coin plan.scope ∷ journal.now.history)) }
+        ensures at { OnOk result (AreAt operation.moment self.new.operations) }
+        ensures others { OthersWait operation.req.0 self.old self.new }
+        ensures err { OnErr result (self.new ≡ self.old) }
+    {
+        let record = fresh_operation(alloc, journal, operation, &plan)?;
+        self.kept_begun(record)
+    }
+
     fn kept_joinable(&self, target: &str, kind: Kind) -> Option<Req>
-        ensures { result ≡ OpsRecords.joinable kind target.now self.now }
+        ensures { result ≡ OpsRecords.joinable kind target.now self.now.operations }
     {
         joinable(&self.records, target, kind)
     }
@@ -291,34 +199,34 @@ impl Ops {
     /// The operation that a request for a target and an action joins: the least that is open and does not stand
     /// in its on phase. None where there is none.
     pub fn joinable(&self, target: &str, kind: Kind) -> Option<Req>
-        ensures { (h : History) (moment : ℕ) → AreAt moment self.now → StandsFor self.now h →
+        ensures { (h : History) (moment : ℕ) → AreAt moment self.now.operations → StandsFor self.now h →
             option_map (λ r. r.0) result ≡ option_map (λ o. o.req) (Operations.joined h moment kind target.now) }
     {
         self.kept_joinable(target, kind)
     }
 
     fn kept_due(&self, moment: u64) -> Option<Due>
-        ensures { OpsRecords.shown result ≡ OpsRecords.first_due moment self.now }
+        ensures { OpsRecords.shown result ≡ OpsRecords.first_due moment self.now.operations }
     {
         first_due(&self.records, moment)
     }
 
     /// The least operation to which an answer is due, with that answer. None where none is.
     pub fn due(&self, moment: u64) -> Option<Due>
-        requires at { AreAt moment self.now }
+        requires at { AreAt moment self.now.operations }
         ensures { (h : History) → StandsFor self.now h → IsFirstDue h moment result (Operations.first_due h moment) }
     {
         self.kept_due(moment)
     }
 
     fn kept_expired(&self, moment: u64) -> Option<Req>
-        ensures { result ≡ OpsRecords.first_expired moment self.now }
+        ensures { result ≡ OpsRecords.first_expired moment self.now.operations }
     {
         first_expired(&self.records, moment)
     }
 
     fn kept_moved(&mut self, operation: Option<Req>, moment: u64)
-        ensures { self.new ≡ OpsRecords.moved operation moment self.old }
+        ensures { self.new ≡ record self.old { operations = OpsRecords.moved operation moment self.old.operations } }
     {
         match operation {
             Some(req) => see_moment_of(&mut self.records, req, moment),
@@ -331,11 +239,14 @@ impl Ops {
     /// is none: then all records do.
     pub fn expire(&mut self, journal: &Journal, moment: u64) -> Option<Req>
         requires stands { StandsFor self.old journal.now.history }
-        requires later { AreBy moment self.old }
-        ensures first { option_map (λ r. r.0) result ≡ first_ended journal.now.history moment self.old }
+        requires later { AreBy moment self.old.operations }
+        ensures first { option_map (λ r. r.0) result ≡ first_ended journal.now.history moment self.old.operations }
         ensures stands { StandsFor self.new journal.now.history }
-        ensures one { (req : Req) → result ≡ Some req → self.new ≡ map (OperationRecords.only req.0 (OperationRecords.at_moment moment)) self.old }
-        ensures all { result ≡ None → AreAt moment self.new }
+        ensures one { (req : Req) → result ≡ Some req → self.new.operations ≡ map (OperationRecords.only req.0 (OperationRecords.at_moment moment)) self.old.operations }
+        ensures later { AreBy moment self.new.operations }
+        ensures fewer { (req : Req) → result ≡ Some req → behind moment self.new.operations < behind moment self.old.operations }
+        ensures same { map (λ r. r.req) self.new.operations ≡ map (λ r. r.req) self.old.operations }
+        ensures all { result ≡ None → AreAt moment self.new.operations }
     {
         let expired = self.kept_expired(moment);
         self.kept_moved(expired, moment);
@@ -343,25 +254,36 @@ impl Ops {
     }
 
     fn kept_started(&mut self, operation: Req, moment: u64)
-        ensures { self.new ≡ map (OperationRecords.only operation.0 (OperationRecords.start_standing moment)) self.old }
+        ensures { self.new ≡ OpsRecords.started operation.0 moment self.old }
     {
         see_start(&mut self.records, operation, moment);
+        self.alive = self.alive.saturating_add(1);
     }
 
     /// A run of an operation was started, of the slot at which that stands.
     pub fn started(&mut self, journal: &Journal, operation: Req, run: Run, moment: u64)
         requires stands { StandsFor self.old journal.now.history }
-        requires at { AreAt moment self.old }
+        requires at { AreAt moment self.old.operations }
+        requires lawful { Lawful journal.now.history }
+        requires number { run.0 ≡ starts journal.now.history }
         requires early { moment ≤ 10 ^ 15 }
         requires few { length journal.now.history + 1 < 2 ^ 32 }
-        ensures { (t : Task) (reg : Reg) (kind : Kind) (attempt : ℕ) → StandsAt journal.now.history moment operation.0 t →
-            StandsFor self.new (start_entry moment run operation t.slot reg kind attempt ∷ journal.now.history) }
+        requires settled { settled journal.now.history moment ≡ true }
+        ensures stands { (y : Try) (reg : Reg) (kind : Kind) (attempt : ℕ) → AwaitsTry journal.now.history moment operation.0 y →
+            StandsFor self.new (start_entry moment run operation y.task.slot reg kind attempt ∷ journal.now.history) }
+        ensures at { AreAt moment self.new.operations }
+        ensures settled { (slot : Slot) (reg : Reg) (kind : Kind) (attempt : ℕ) →
+            settled (start_entry moment run operation slot reg kind attempt ∷ journal.now.history) moment ≡ true }
+        ensures waits { (y : Try) → AwaitsTry journal.now.history moment operation.0 y → OpsRecords.waiting operation.0 self.new.operations ≡ None }
+        ensures others { OthersWait operation.0 self.old self.new }
+        ensures owes { (y : Try) (reg : Reg) (kind : Kind) (attempt : ℕ) → AwaitsTry journal.now.history moment operation.0 y →
+            Owed.owed (start_entry moment run operation y.task.slot reg kind attempt ∷ journal.now.history) + 1 ≡ Owed.owed journal.now.history }
     {
         self.kept_started(operation, moment);
     }
 
     fn kept_confirmed(&mut self, target: &str)
-        ensures { self.new ≡ map (OperationRecords.operation_confirmed target.now) self.old }
+        ensures { self.new ≡ record self.old { operations = map (OperationRecords.operation_confirmed target.now) self.old.operations } }
     {
         see_confirm(&mut self.records, target);
     }
@@ -369,14 +291,17 @@ impl Ops {
     /// An operator said that a target is down: of its operations that are open this is known from now on.
     pub fn confirm(&mut self, journal: &Journal, target: &str)
         requires stands { StandsFor self.old journal.now.history }
-        ensures { (moment : ℕ) (client : List ℕ) → StandsFor self.new (confirm_entry moment client target.now ∷ journal.now.history) }
+        ensures stands { (moment : ℕ) (client : List ℕ) → StandsFor self.new (confirm_entry moment client target.now ∷ journal.now.history) }
+        ensures at { (moment : ℕ) → AreAt moment self.old.operations → AreAt moment self.new.operations }
+        ensures waits { AllWait self.old self.new }
     {
         self.kept_confirmed(target);
     }
 
     fn kept_ended(&mut self, start: Option<RunStart>, exit: Exit, listed: bool, moment: u64)
-        ensures { self.new ≡ OpsRecords.ended start exit listed moment self.old }
+        ensures { self.new ≡ record { operations = OpsRecords.ended start exit listed moment self.old.operations; alive = self.old.alive - 1 } }
     {
+        self.alive = self.alive.saturating_sub(1);
         if let Some(s) = start {
             see_exit(&mut self.records, s.req, s.slot, exit, listed, moment);
         }
@@ -385,24 +310,27 @@ impl Ops {
     /// A run has ended, of an operation that is open or of one that is not.
     pub fn ended(&mut self, journal: &Journal, run: Run, exit: Exit, listed: bool, moment: u64)
         requires stands { StandsFor self.old journal.now.history }
-        requires at { AreAt moment self.old }
+        requires at { AreAt moment self.old.operations }
         requires lawful { Lawful journal.now.history }
         requires alive { is_alive run.0 journal.now.history ≡ true }
         requires few { length journal.now.history + 1 < 2 ^ 32 }
-        ensures { StandsFor self.new (exit_entry moment run exit listed ∷ journal.now.history) }
+        requires settled { settled journal.now.history moment ≡ true }
+        ensures stands { StandsFor self.new (exit_entry moment run exit listed ∷ journal.now.history) }
+        ensures at { AreAt moment self.new.operations }
+        ensures others { (start : Started) → Found.started run.0 journal.now.history ≡ Some start → OthersWait start.req self.old self.new }
     {
         let start = start_of(journal, run);
         self.kept_ended(start, exit, listed, moment);
     }
 
     fn kept_member(&self, operation: Req) -> Option<Req>
-        ensures { result ≡ OpsRecords.first_member operation.0 self.now }
+        ensures { result ≡ OpsRecords.first_member operation.0 self.now.operations }
     {
         first_member(&self.records, operation)
     }
 
     fn kept_replied(&mut self, operation: Req)
-        ensures { self.new ≡ OpsRecords.replied operation.0 self.old }
+        ensures { self.new ≡ record self.old { operations = OpsRecords.replied operation.0 self.old.operations } }
     {
         see_reply(&mut self.records, operation);
         keep_waiting(&mut self.records);
@@ -415,6 +343,8 @@ impl Ops {
         ensures none { result ≡ None → self.new ≡ self.old }
         ensures stands { (h : History) (req : Req) (moment : ℕ) (answer : Answer) → Lawful h → StandsFor self.old h → result ≡ Some req →
             StandsFor self.new (reply_entry moment req answer ∷ h) }
+        ensures at { (moment : ℕ) → AreAt moment self.old.operations → AreAt moment self.new.operations }
+        ensures others { (h : History) → StandsFor self.old h → OthersWait operation.0 self.old self.new }
     {
         let member = self.kept_member(operation);
         if let Some(_) = member {

@@ -4,6 +4,7 @@ ghost use Rattle.std.specs.Prelude.{◌≡◌};
 ghost use Rattle.fnc_journal.specs.Exits as Exits;
 ghost use Rattle.fnc_journal.specs.Missing as Missing;
 ghost use Rattle.fnc_ops.specs.SlotRecords as SlotRecords;
+ghost use Rattle.fnc_ops.specs.OperationRecords as OperationRecords;
 
 use fnc_journal::{Exit, Kind, Reg, Slot};
 
@@ -13,6 +14,18 @@ pub(crate) enum LastRun {
     NoRun,
     Alive(u64),
     EndedAt(u64),
+}
+
+impl LastRun {
+    /// Whether no run is alive.
+    pub fn is_idle(self) -> bool
+        ensures { result ≡ OperationRecords.is_idle self }
+    {
+        match self {
+            LastRun::Alive(_) => false,
+            _ => true,
+        }
+    }
 }
 
 /// What is kept of a slot. The first six fields are its part of the plan and never change: its device's

@@ -1,10 +1,11 @@
 -- The first to start is the least of those that may start.
-use Rattle.std.proofs.Common.{ℕ, List, [], ◌∷◌, Bool, true, false, ◌≡◌, ◌+◌, refl, sym, ap, ◌∙◌, subst, Option, Some, None, is_some, arith, add-one, suc, zero, eq-eqb, Bor, IfSome, cond, ◌==◌, ◌||◌}
+use Rattle.std.proofs.Common.{ℕ, List, [], ◌∷◌, Bool, true, false, ◌≡◌, ◌<◌, ◌+◌, refl, sym, ap, ◌∙◌, subst, Option, Some, None, is_some, arith, add-one, suc, zero, eq-eqb, Bor, IfSome, cond, ◌==◌, ◌||◌}
 use Rattle.std.specs.Option.{option_copied}
 use Rattle.std.specs.List.{list_any, AllByRecursion, Contains}
 use Rattle.fnc_journal.specs.declared.entry.Reg.{Reg}
 use Rattle.fnc_queue.specs.declared.waiting.Waiting.{Waiting}
-use Rattle.fnc_queue.specs.Items.{is_waiting}
+use Rattle.fnc_queue.specs.Items.{is_waiting, item_of, InOrder}
+use Rattle.fnc_queue.proofs.Numbers.{other-number}
 use Rattle.fnc_queue.specs.Queued.{Queued}
 use Rattle.fnc_queue.specs.Places.{may_start, is_before, soonest, first_among, first_of, any_may_start, IsFirst}
 
@@ -82,6 +83,26 @@ first-is-first m q item e =
     let l : Leads m q.alive q.waiting (Some item) = subst (Leads m q.alive q.waiting) e (leads m q.alive q.waiting) in
     record { waits = l.0; starts = l.1; least = l.2 }
 
+-- what holds of each item holds of one that is in the list
+each-contained : (P : Waiting → Type 0) (items : List Waiting) (item : Waiting) → AllByRecursion P items → Contains items item → P item
+each-contained P [] item a (k, l, e) = absurd (omega (arith, l))
+each-contained P (x ∷ items) item a (zero, l, e) = subst P e a.0
+each-contained P (x ∷ items) item a (suc k, l, e) = each-contained P items item a.1 (k, omega (arith, l), e)
+
+-- an operation has no other item than this one
+pub contained-own : (item : Waiting) (items : List Waiting) → InOrder items → Contains items item → item_of item.req.0 items ≡ Some item
+contained-own item [] o (k, l, e) = absurd (omega (arith, l))
+contained-own item (x ∷ items) o (zero, l, e) =
+    subst (λ (w : Waiting). item_of w.req.0 (x ∷ items) ≡ Some w) e (let same : (x.req.0 == x.req.0) ≡ true = eq-eqb x.req.0 x.req.0 refl in rw same refl)
+contained-own item (x ∷ items) o (suc k, l, e) =
+    let later : x.req.0 < item.req.0 = each-contained (λ other. x.req.0 < other.req.0) items item o.0 (k, omega (arith, l), e) in
+    let other : (x.req.0 == item.req.0) ≡ false = other-number x.req.0 item.req.0 later in
+    rw other (contained-own item items o.1 (k, omega (arith, l), e))
+
+-- so it is with the first of a queue
+pub first-own : (m : ℕ) (q : Queued) (item : Waiting) → InOrder q.waiting → IsFirst m q item → item_of item.req.0 q.waiting ≡ Some item
+first-own m q item o f = contained-own item q.waiting o f.waits
+
 -- the same of a reference to it
 pub borrowed-some : (m : ℕ) (q : Queued) (o : Option (Bor Waiting)) → option_copied o ≡ first_of m q → is_some o ≡ any_may_start m q
 borrowed-some m q o e = same o ∙ ap is_some e ∙ first-where-any m q.alive q.waiting
@@ -89,6 +110,10 @@ borrowed-some m q o e = same o ∙ ap is_some e ∙ first-where-any m q.alive q.
     same : (o : Option (Bor Waiting)) → is_some o ≡ is_some (option_copied o)
     same None = refl
     same (Some x) = refl
+
+pub borrowed-own : (m : ℕ) (q : Queued) (o : Option (Bor Waiting)) → InOrder q.waiting → option_copied o ≡ first_of m q → IfSome o (λ item. item_of item.now.req.0 q.waiting ≡ Some item.now)
+borrowed-own m q None i e = tt
+borrowed-own m q (Some x) i e = first-own m q x.now i (first-is-first m q x.now (sym e))
 
 pub borrowed-first : (m : ℕ) (q : Queued) (o : Option (Bor Waiting)) → option_copied o ≡ first_of m q → IfSome o (λ item. IsFirst m q item.now)
 borrowed-first m q None e = tt

@@ -99,6 +99,7 @@ impl Queue {
         ensures item { option_copied result ≡ first_of moment self.now }
         ensures some { is_some result ≡ any_may_start moment self.now }
         ensures least { IfSome result (λ item. IsFirst moment self.now item.now) }
+        ensures own { IfSome result (λ item. Items.item_of item.now.req.0 self.now.waiting ≡ Some item.now) }
     {
         first_among(&self.waiting, moment, &self.alive)
     }
@@ -108,6 +109,7 @@ impl Queue {
         ensures item { result ≡ first_of moment self.old }
         ensures some { is_some result ≡ any_may_start moment self.old }
         ensures least { IfSome result (IsFirst moment self.old) }
+        ensures own { IfSome result (λ item. Items.item_of item.req.0 self.old.waiting ≡ Some item) }
         ensures after { self.new ≡ started (first_of moment self.old) self.old }
         ensures changes { IfSome result (λ item. Items.Changes item.req.0 None self.old.waiting self.new.waiting) }
         ensures counts { IfSome result (λ item. Lanes.CountsOneMore item.lane.0 self.old.alive self.new.alive) }

@@ -1,11 +1,22 @@
 -- The records stand for the journal with the operator's word.
-use Rattle.std.proofs.Common.{◌∷◌, sym, subst, List}
-use Rattle.fnc_ops.specs.KeptOperation.{KeptOperation}
-use Rattle.fnc_ops.specs.Stands.{StandsFor, confirm_entry}
+use Rattle.std.proofs.Common.{◌∷◌, ◌∙◌, ap, sym, subst}
+use Rattle.fnc_ops.specs.Kept.{Kept}
+use Rattle.fnc_ops.specs.OperationRecords.{operation_confirmed}
+use Rattle.fnc_ops.specs.OpsRecords.{waiting}
+use Rattle.fnc_ops.specs.Stands.{StandsFor, AreAt, confirm_entry}
 use Rattle.fnc_ops.proofs.StandsSteps.{stands-confirmed}
+use Rattle.fnc_ops.proofs.Waits.{at-map, moment-confirmed, waiting-confirmed}
 use Rattle.fnc_ops.proofs.ops.Ops.confirm.Goals as goal
 
-pub returns : goal.returns
-returns c moment client =
-    subst (λ (rs : List KeptOperation). StandsFor rs (confirm_entry moment client c.args.target.now ∷ c.args.journal.now.history)) (sym c.kept_confirmed.ensures)
-    (stands-confirmed c.args.journal.now.history moment client c.args.target.now c.args.self.now c.requires.stands)
+pub returns-clause-stands : goal.returns-clause-stands
+returns-clause-stands c moment client =
+    subst (λ (v : Kept). StandsFor v (confirm_entry moment client c.args.target.now ∷ c.args.journal.now.history)) (sym c.kept_confirmed.ensures)
+    (record { each = stands-confirmed c.args.journal.now.history moment client c.args.target.now c.args.self.now.operations c.requires.stands.each; alive = c.requires.stands.alive })
+
+pub returns-clause-at : goal.returns-clause-at
+returns-clause-at c m at =
+    subst (λ (v : Kept). AreAt m v.operations) (sym c.kept_confirmed.ensures)
+    (at-map m (operation_confirmed c.args.target.now) (moment-confirmed c.args.target.now) c.args.self.now.operations at)
+
+pub returns-clause-waits : goal.returns-clause-waits
+returns-clause-waits c n = ap (λ (v : Kept). waiting n v.operations) c.kept_confirmed.ensures ∙ waiting-confirmed c.args.target.now n c.args.self.now.operations

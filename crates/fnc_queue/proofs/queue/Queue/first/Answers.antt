@@ -1,7 +1,9 @@
 -- What the first of the list says of the queue.
-use Rattle.std.proofs.Common.{◌∙◌, ap₂}
+use Rattle.std.proofs.Common.{◌∙◌, ap₂, subst}
+use Rattle.fnc_queue.specs.Items.{InOrder}
+use Rattle.fnc_queue.specs.Queued.{Queued}
 use Rattle.fnc_queue.specs.Places.{first_among}
-use Rattle.fnc_queue.proofs.FirstLemmas.{borrowed-some, borrowed-first}
+use Rattle.fnc_queue.proofs.FirstLemmas.{borrowed-some, borrowed-first, borrowed-own}
 use Rattle.fnc_queue.proofs.queue.Queue.first.Goals as goal
 
 pub returns-clause-item : goal.returns-clause-item
@@ -12,3 +14,7 @@ returns-clause-some c = borrowed-some c.args.moment c.args.self.now c.first_amon
 
 pub returns-clause-least : goal.returns-clause-least
 returns-clause-least c = borrowed-first c.args.moment c.args.self.now c.first_among.result (returns-clause-item c)
+
+pub returns-clause-own : goal.returns-clause-own
+returns-clause-own c =
+    borrowed-own c.args.moment c.args.self.now c.first_among.result (subst (λ (q : Queued). InOrder q.waiting) c.self.view_is c.self.invariant.3) (returns-clause-item c)

@@ -1,0 +1,111 @@
+// The record of an operation that begins.
+
+ghost use Rattle.std.specs.Prelude.{◌≡◌, ◌≤◌, ◌+◌, ◌<◌, ◌^◌, length, IfOk};
+ghost use Rattle.fnc_ops.specs.Stands.{AreFewDevices};
+ghost use Rattle.fnc_journal.specs.Slots as Slots;
+ghost use Rattle.fnc_ops.specs.FreshRecords as FreshRecords;
+
+use crate::fresh::fresh_levels;
+use crate::level::LevelRecord;
+use crate::operation::OperationRecord;
+use crate::ops::Operation;
+use crate::slot::SlotRecord;
+use fnc_journal::{Journal, NoMemory, Plan, Scope};
+use std::alloc::Global;
+
+/// Whether levels are tried, and not candidates.
+pub(crate) fn is_levelled(scope: Scope) -> bool
+    ensures { result ≡ Slots.is_levelled scope }
+{
+    match scope {
+        Scope::Nothing => false,
+        _ => true,
+    }
+}
+
+/// The allowed tries of these slots, added to a number.
+fn tries_after(before: u32, slots: &[SlotRecord]) -> u32
+    ensures { result ≡ FreshRecords.tries_after before slots.now }
+{
+    let mut tries = before;
+    for slot in slots {
+        tries = tries.saturating_add(u32::from(slot.tries));
+    }
+    tries
+}
+
+fn query_tries_after(before: u32, query: Option<SlotRecord>) -> u32
+    ensures { result ≡ FreshRecords.query_tries_after before query }
+{
+    match query {
+        None => before,
+        Some(slot) => before.saturating_add(u32::from(slot.tries)),
+    }
+}
+
+fn level_tries_after(before: u32, level: &LevelRecord) -> u32
+    ensures { result ≡ FreshRecords.level_tries_after before level.now }
+{
+    let queried = query_tries_after(before, level.query);
+    tries_after(tries_after(queried, &level.firsts), &level.ons)
+}
+
+/// The allowed tries of all slots of these levels.
+fn all_tries(levels: &[LevelRecord]) -> u32
+    ensures { result ≡ FreshRecords.all_tries_after 0 levels.now }
+{
+    let mut tries = 0;
+    for level in levels {
+        tries = level_tries_after(tries, level);
+    }
+    tries
+}
+
+/// The record before it is seen whether a query is open.
+fn unseen_operation(
+    alloc: Global,
+    journal: &Journal,
+    operation: Operation,
+    plan: &Plan,
+) -> Result<OperationRecord, NoMemory>
+    requires levels { AreFewDevices plan.now.levels }
+    requires candidates { length plan.now.candidates ≤ 128 }
+    requires over { operation.moment + operation.total < 2 ^ 64 }
+    ensures { IfOk result (λ r. r ≡ FreshRecords.unseen_operation (FreshRecords.begun_by operation plan.now journal.now.history)) }
+{
+    let levels = fresh_levels(alloc, journal, &operation, plan)?;
+    let mut members = Vec::new(alloc);
+    members.push(operation.req)?;
+    Ok(OperationRecord {
+        req: operation.req,
+        kind: operation.kind,
+        target: operation.target,
+        begin: operation.moment,
+        over: operation.moment + operation.total,
+        moment: operation.moment,
+        confirmed: false,
+        ranked: is_levelled(plan.scope),
+        untried: all_tries(&levels),
+        levels,
+        members,
+    })
+}
+
+/// The record of an operation that begins, with its plan. Where no query is open it is known at once which
+/// levels are tried.
+pub fn fresh_operation(
+    alloc: Global,
+    journal: &Journal,
+    operation: Operation,
+    plan: &Plan,
+) -> Result<OperationRecord, NoMemory>
+    requires levels { AreFewDevices plan.now.levels }
+    requires candidates { length plan.now.candidates ≤ 128 }
+    requires over { operation.moment + operation.total < 2 ^ 64 }
+    ensures { IfOk result (λ r. r ≡ FreshRecords.fresh_operation (FreshRecords.begun_by operation plan.now journal.now.history)) }
+{
+    let moment = operation.moment;
+    let mut record = unseen_operation(alloc, journal, operation, plan)?;
+    record.see_moment(moment);
+    Ok(record)
+}
