@@ -1,19 +1,25 @@
 -- What contracts see of the core, what holds of it after every call, and what a call adds to its journal.
-use Rattle.std.specs.Prelude.{ℕ, List, [], ◌∷◌, ◌++◌, length, ◌≡◌, ◌+◌, ◌≤◌, ◌<◌, true, Some}
+use Rattle.std.specs.Prelude.{ℕ, List, [], ◌∷◌, ◌++◌, length, ◌≡◌, ◌+◌, ◌≤◌, ◌<◌, true, option_map, unwrap_or, Option, Some, None}
 use Rattle.fnc_journal.specs.declared.entry.Entry.{Entry}
 use Rattle.fnc_journal.specs.declared.entry.Event.{Event}
-use Rattle.fnc_journal.specs.declared.entry.Kind.{Kind}
 use Rattle.fnc_journal.specs.declared.entry.Req.{Req}
-use Rattle.fnc_journal.specs.declared.entry.Run.{Run}
-use Rattle.fnc_journal.specs.declared.entry.Scope.{Scope}
 use Rattle.fnc_journal.specs.declared.outcome.Full.{Full}
+use Rattle.fnc_journal.specs.declared.plan.Plan.{Plan}
 use Rattle.fnc_journal.specs.History.{History}
-use Rattle.fnc_journal.specs.Operations.{settled}
+use Rattle.fnc_journal.specs.Operations.{settled, joined, open_operations}
 use Rattle.fnc_journal.specs.Owed.{owed}
-use Rattle.fnc_journal.specs.Acts.{acts, runs}
-use Rattle.fnc_journal.specs.Startable.{Startable, first}
 use Rattle.fnc_journal.specs.Lawful.{Lawful, Calm, last_moment}
 use Rattle.fnc_journal.specs.Served.{AreReplies}
+use Rattle.fnc_ops.specs.Stands.{AreBounded}
+use Rattle.fnc_journal.specs.Found.{devices, asks, starts}
+use Rattle.fnc_journal.specs.Slots.{Operation}
+use Rattle.fnc_journal.specs.Startable.{alive_runs, Startable, first}
+use Rattle.fnc_journal.specs.Acts.{acts, runs, limit}
+use Rattle.fnc_core.specs.Between.{need_of, limit_from}
+use Rattle.fnc_core.specs.declared.change.Ask.{Ask}
+use Rattle.fnc_core.specs.declared.change.Change.{Change}
+use Rattle.fnc_core.specs.declared.change.Started.{Started}
+use Rattle.fnc_core.specs.declared.refusal.AskRefusal.{AskRefusal}
 
 -- the journal, the newest entry first; the last moment; and how many entries the journal may have
 pub record Cored : Type 0 where
@@ -28,15 +34,14 @@ pub record Sound (v : Cored) : Type 0 where
   pub settled_now : settled v.history v.last ≡ true
   pub settled_then : settled v.history (last_moment v.history) ≡ true
   pub came : last_moment v.history ≤ v.last
+  pub bounded : AreBounded v.history
   pub room : length v.history + owed v.history ≤ v.limit
 
--- The moment advances: the replies due at it are given, none where the moment is the last one. This edition lives
--- within the first minute, in which nothing becomes due by time alone: so there are none.
+-- the moment advances: the replies due at it are given, none where the moment is the last one
 pub record Advances (old new : Cored) (m : ℕ) : Type 0 where
   pub advance : History
   pub at_once : AreReplies m advance
   pub still : old.last ≡ m → advance ≡ []
-  pub quiet : advance ≡ []
   pub history : new.history ≡ advance ++ old.history
   pub last : new.last ≡ m
   pub limit : new.limit ≡ old.limit
@@ -46,16 +51,29 @@ pub record Enters (old new : Cored) (m : ℕ) (event : Event) : Type 0 where
   pub advance : History
   pub at_once : AreReplies m advance
   pub still : old.last ≡ m → advance ≡ []
-  pub quiet : advance ≡ []
   pub replies : History
   pub answered : AreReplies m replies
   pub history : new.history ≡ replies ++ record { moment = m; event = event } ∷ (advance ++ old.history)
   pub last : new.last ≡ m
   pub limit : new.limit ≡ old.limit
 
--- one more entry at the last moment
-abbrev pub with_event : Event → Cored → Cored
-with_event event v = record v { history = record { moment = v.last; event = event } ∷ v.history }
+-- the request that a request joins in a journal at a moment, or itself
+abbrev pub lead_in : History → ℕ → Ask → Req → Req
+lead_in h m a req = record { 0 = unwrap_or (option_map (λ o. o.req) (joined h m a.kind a.target)) req.0 }
+
+-- the next request
+abbrev pub next_of : Cored → Req
+next_of v = record { 0 = asks v.history }
+
+-- the entry of a request
+abbrev pub ask_event : Req → Req → Ask → Plan → Event
+ask_event req lead a p = Event.Ask req lead a.client a.kind a.target a.total a.coin p.scope
+
+-- a request enters, with the lead that it has after the advance
+pub record Asks (old new : Cored) (m : ℕ) (a : Ask) (p : Plan) (req : Req) : Type 0 where
+  pub lead : Req
+  pub enters : Enters old new m (ask_event req lead a p)
+  pub leads : lead ≡ lead_in (enters.advance ++ old.history) m a req
 
 -- what is said where there is no room for so many entries
 abbrev pub full_of : Cored → ℕ → Full
@@ -70,22 +88,66 @@ pub record IsFull (v : Cored) (need : ℕ) (full : Full) : Type 0 where
   pub says : full ≡ full_of v need
   pub above : v.limit < length v.history + owed v.history + need
 
--- the entry of a request for `off` that begins its own operation, with the default total
-abbrev pub ask_of : Req → List ℕ → List ℕ → Event
-ask_of req client target = Event.Ask req req client Kind.Off target 600_000 0 Scope.Nothing
+-- nothing is open and no run is alive
+pub record IsIdle (v : Cored) : Type 0 where
+  pub closed : open_operations v.history ≡ []
+  pub ended : alive_runs v.history ≡ []
 
--- the entry of a start
-abbrev pub start_of : Cored → Run → Startable → Entry
-start_of v run s = record {
-  moment = v.last;
-  event = Event.Start run (record { 0 = s.operation.req }) s.task.slot (record { 0 = s.task.reg }) s.task.kind (runs s.task.slot (acts s.operation.req v.history) + 1);
-}
+-- one more input at the last moment, and then the replies that it made due
+pub record Follows (old new : Cored) (event : Event) : Type 0 where
+  pub replies : History
+  pub answered : AreReplies old.last replies
+  pub history : new.history ≡ replies ++ record { moment = old.last; event = event } ∷ old.history
+  pub last : new.last ≡ old.last
+  pub limit : new.limit ≡ old.limit
+
+-- the entry of a change: a device gets the next number
+abbrev pub event_of : History → Change → Event
+event_of h (Change.Device registration) = Event.Device (record { 0 = devices h }) registration
+event_of h (Change.Gone reg) = Event.Gone reg
+event_of h (Change.Level target index names) = Event.Level target index names
+event_of h (Change.LevelGone target index) = Event.LevelGone target index
+event_of h (Change.Agent name description) = Event.Agent name description
+event_of h (Change.Confirm client target) = Event.Confirm client target
+
+-- the entries that a request wants: its own and its reply, and where it begins an operation a start and an exit for each try
+abbrev pub wanted_by : Cored → ℕ → Ask → Plan → Option Operation → ℕ
+wanted_by v m a p None = need_of v.history m (next_of v) a p
+wanted_by v m a p (Some o) = 2
+
+-- the entries that a request wants at the last moment
+abbrev pub ask_need : Cored → Ask → Plan → ℕ
+ask_need v a p = wanted_by v v.last a p (joined v.history v.last a.kind a.target)
+
+-- why a request that wants so many entries is not taken: there is no room for them. Want of memory is free
+abbrev pub IsRefusal : Cored → ℕ → AskRefusal → Type 0
+IsRefusal v need (AskRefusal.Full full) = IsFull v need full
+IsRefusal v need AskRefusal.NoMemory = Unit {0}
+
+-- why a request is not taken
+abbrev pub IsAskRefusal : Cored → Ask → Plan → AskRefusal → Type 0
+IsAskRefusal v a p refusal = IsRefusal v (ask_need v a p) refusal
+
+-- what is told of the start that may be made first in a journal at a moment: its run has the next number
+pub record IsFirstStart (h : History) (m : ℕ) (s : Started) : Type 0 where
+  pub startable : Startable
+  pub is_first : first h m ≡ Some startable
+  pub run_is : s.run.0 ≡ starts h
+  pub req : s.req.0 ≡ startable.operation.req
+  pub slot : s.slot ≡ startable.task.slot
+  pub reg : s.reg.0 ≡ startable.task.reg
+  pub kind : s.kind ≡ startable.task.kind
+  pub attempt : s.attempt ≡ runs startable.task.slot (acts startable.operation.req h) + 1
+  pub limit : s.limit ≡ limit_from m startable.operation.over startable.task (limit startable.task startable.operation.over (acts startable.operation.req h))
+
+-- what is told of the start that may be made first at the last moment
+abbrev pub IsStart : Cored → Started → Type 0
+IsStart v s = IsFirstStart v.history v.last s
 
 -- the first try that may start was started
-pub record Starts (old new : Cored) (run : Run) : Type 0 where
-  pub startable : Startable
-  pub is_first : first old.history old.last ≡ Some startable
-  pub history : new.history ≡ start_of old run startable ∷ old.history
+pub record Starts (old new : Cored) (s : Started) : Type 0 where
+  pub is : IsStart old s
+  pub history : new.history ≡ record { moment = old.last; event = Event.Start s.run s.req s.slot s.reg s.kind s.attempt } ∷ old.history
   pub fits : length new.history ≤ new.limit
   pub last : new.last ≡ old.last
   pub limit : new.limit ≡ old.limit

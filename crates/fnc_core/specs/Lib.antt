@@ -1,6 +1,7 @@
-pub mod Plain
-pub mod Stages
-pub mod Opens
+pub mod Parted
+pub mod Wanted
+pub mod Between
 pub mod Cored
 pub mod Holds
-pub mod Refusals
+pub mod Limits
+pub mod Calls

@@ -1,44 +1,33 @@
 // The core: one event of the fencer after another.
 
-ghost use Rattle.std.specs.Bool.{OnTrue, OnFalse};
-ghost use Rattle.std.specs.List.{list_any};
-ghost use Rattle.fnc_journal.specs.Found.{devices, asks};
-ghost use Rattle.fnc_journal.specs.Operations.{open_operations};
-ghost use Rattle.fnc_journal.specs.Owed as Owed;
-ghost use Rattle.fnc_journal.specs.Slots.{Operation};
-ghost use Rattle.fnc_core.specs.Cored.{Sound, HasRoom, IsFull, Advances, Enters, Starts, ask_of, with_event};
-ghost use Rattle.fnc_core.specs.Refusals.{IsAskRefusal};
-ghost use Rattle.fnc_core.specs.Plain.{plain};
-ghost use Rattle.fnc_journal.specs.Startable.{first, is_alive};
+ghost use Rattle.std.specs.Prelude.{◌≡◌, ◌<◌, ◌≤◌, ◌+◌, ◌*◌, ◌^◌, ◌↔◌, [], true, None, IsOk, IsNone, IfOk, IfErr, IfNone, IfSome, OnOk, OnErr, option_map};
 ghost use Rattle.fnc_journal.specs.declared.entry.Event.{Event};
-ghost use Rattle.std.specs.Prelude.{◌≡◌, ◌<◌, ◌≤◌, ◌+◌, ◌^◌, ◌↔◌, ◌∷◌, ◌==◌, [], ℕ, List, length, codes, Some, None, true, false, bytes_eq, OnOk, OnErr, IfOk, IfErr, IfSome, IfNone, IsTrue, IsOk, IsErr, IsNone, IsErrOf};
+ghost use Rattle.fnc_journal.specs.Found.{asks};
+ghost use Rattle.fnc_journal.specs.Lawful.{in_order, may_ask};
+ghost use Rattle.fnc_journal.specs.Levels.{is_in_place};
+ghost use Rattle.fnc_journal.specs.Operations.{joined};
+ghost use Rattle.fnc_journal.specs.Startable.{first, is_alive};
+ghost use Rattle.fnc_core.specs.Between.{IsBoundedEvent, IsPlanOf};
+ghost use Rattle.fnc_core.specs.Cored.{Sound, Advances, Enters, Asks, Starts, HasRoom, IsFull, IsIdle, IsAskRefusal, IsStart, event_of};
 
-use crate::open::{
-    Open, Stage, close, conclusion, first_ready, has_target, owed, see_failure, see_start,
-};
+use crate::change::{Ask, Change, Started};
+use crate::parts::Parts;
 use crate::refusal::{AskRefusal, UnknownRun};
-use crate::running::{Running, owed_for};
-use fnc_journal::{
-    Cause, Entry, Event, Exit, Full, Journal, Kind, NoMemory, Phase, Reg, Registration, Req, Run,
-    Scope, Slot, Text,
-};
+use fnc_journal::{Cause, Event, Exit, Full, Journal, Kind, NoMemory, Plan, Req, Run};
+use fnc_ops::Ops;
+use fnc_queue::Queue;
 use std::alloc::Global;
 use std::marker::Model;
 
-/// The total time of a request, in milliseconds: ten minutes.
-const TOTAL: u64 = 600_000;
-
-/// The state machine of the fencer. Contracts see its journal, the newest entry first, the last moment,
-/// and the journal's limit.
+/// The state machine of the fencer. Contracts see its journal, the newest entry first, the last moment, and the
+/// journal's limit.
 #[derive(Drop)]
 pub struct Core {
-    journal: Journal,
-    last: u64,
-    has_device: bool,
-    opens: Vec<Open>,
-    running: Option<Running>,
-    next_req: u32,
-    next_run: u32,
+    pub(crate) parts: Parts,
+    pub(crate) last: u64,
+    pub(crate) next_reg: u32,
+    pub(crate) next_req: u32,
+    pub(crate) next_run: u32,
 }
 
 impl Model for Core {
@@ -47,10 +36,9 @@ impl Model for Core {
 
     ghost Value = { Cored };
 
-    ghost view = { λ c. record { history = c.journal.history; last = c.last; limit = c.journal.limit } };
+    ghost view = { λ c. record { history = c.parts.history; last = c.last; limit = c.parts.limit } };
 
-    ghost invariant = { λ c.
-        Holds c.journal.history c.journal.limit c.last c.has_device c.opens.items c.running c.next_req c.next_run };
+    ghost invariant = { λ c. Holds c.last c.parts c.next_reg c.next_req c.next_run };
 }
 
 impl Core {
@@ -62,12 +50,15 @@ impl Core {
         ensures last { IfOk result (λ c. c.last ≡ 0) }
         ensures limit { IfOk result (λ c. c.limit ≡ limit) }
     {
+        let journal = Journal::with_limit(alloc, limit)?;
         Ok(Core {
-            journal: Journal::with_limit(alloc, limit)?,
+            parts: Parts {
+                journal,
+                ops: Ops::new(alloc),
+                queue: Queue::new(alloc),
+            },
             last: 0,
-            has_device: false,
-            opens: Vec::new(alloc),
-            running: None,
+            next_reg: 0,
             next_req: 0,
             next_run: 0,
         })
@@ -76,7 +67,7 @@ impl Core {
     /// The last moment, in milliseconds.
     pub fn last(&self) -> u64
         ensures value { result ≡ self.now.last }
-        ensures early { result < 60_000 }
+        ensures early { result ≤ 10 ^ 15 }
     {
         self.last
     }
@@ -87,7 +78,7 @@ impl Core {
         ensures limit { result.now.limit ≡ self.now.limit }
         ensures sound { Sound self.now }
     {
-        &self.journal
+        &self.parts.journal
     }
 
     /// The journal, at the end of a session.
@@ -96,43 +87,36 @@ impl Core {
         ensures limit { result.limit ≡ self.limit }
         ensures sound { Sound self }
     {
-        let Core { journal, .. } = self;
+        let Core { parts, .. } = self;
+        let Parts { journal, .. } = parts;
         journal
     }
 
-    /// Whether a device is registered.
-    pub fn has_device(&self) -> bool
-        ensures yes { OnTrue result (devices self.now.history ≡ 1) }
-        ensures no { OnFalse result (devices self.now.history ≡ 0) }
+    /// The operation that a request for a target and an action would join at the last moment. None where it would
+    /// begin its own.
+    pub fn joinable(&self, target: &str, kind: Kind) -> Option<Req>
+        ensures { option_map (λ r. r.0) result ≡ option_map (λ o. o.req) (joined self.now.history self.now.last kind target.now) }
     {
-        self.has_device
+        self.parts.ops.joinable(target, kind)
     }
 
-    /// Whether an operation for the target is open.
-    pub fn has_target(&self, target: &str) -> bool
-        ensures { result ≡ list_any (λ (o : Operation). bytes_eq target.now o.target) (open_operations self.now.history) }
+    /// Whether no operation is open and no run is alive.
+    pub fn idle(&self) -> bool
+        ensures { (result ≡ true) ↔ IsIdle self.now }
     {
-        has_target(&self.opens, target)
+        self.parts.ops.owed() == 0
     }
 
-    /// The entries that are owed for what was accepted.
-    fn owed(&self) -> u32
-        ensures { result ≡ Owed.owed self.now.history }
-    {
-        owed(&self.opens) + owed_for(self.running)
-    }
-
-    /// Whether there is room for so many entries, beside those that are owed.
+    /// Whether there is room for so many entries, beside those that are owed for what was accepted.
     pub fn room(&self, need: u32) -> Result<(), Full>
-        requires { need < 2 ^ 16 }
         ensures ok { OnOk result (HasRoom self.now need) }
         ensures full { IfErr result (IsFull self.now need) }
     {
         let full = Full {
-            entries: self.journal.len(),
-            owed: self.owed(),
+            entries: self.parts.journal.len(),
+            owed: self.parts.ops.owed(),
             need,
-            limit: self.journal.limit(),
+            limit: self.parts.journal.limit(),
         };
         if u64::from(full.entries) + u64::from(full.owed) + u64::from(need)
             <= u64::from(full.limit)
@@ -143,133 +127,90 @@ impl Core {
         }
     }
 
-    /// Lets the moment advance. Within the first minute nothing becomes due by time alone.
-    fn pass_time(&mut self, moment: u64)
+    /// Lets the moment, in milliseconds, advance, and gives the replies that are due at it.
+    pub fn advance(&mut self, moment: u64)
         requires later { self.old.last ≤ moment }
-        requires early { moment < 60_000 }
-        ensures { self.new ≡ record self.old { last = moment } }
+        requires early { moment ≤ 10 ^ 15 }
+        ensures { Advances self.old self.new moment }
     {
+        self.parts.pass_time(self.last, moment);
+        self.parts.give_replies(moment);
         self.last = moment;
     }
 
-    fn push_refused(&mut self, line: u32, cause: Cause)
-        requires { HasRoom self.old 1 }
-        ensures { self.new ≡ with_event (Event.Refused line cause) self.old }
+    /// A moment passes, and nothing comes with it.
+    pub fn pass(&mut self, moment: u64) -> Result<(), Full>
+        requires later { self.old.last ≤ moment }
+        requires early { moment ≤ 10 ^ 15 }
+        ensures ok { OnOk result (Enters self.old self.new moment Event.Pass) }
+        ensures full { IfErr result (IsFull self.new 1) }
+        ensures err { OnErr result (Advances self.old self.new moment) }
     {
-        let moment = self.last;
-        self.journal.push(Entry {
-            moment,
-            event: Event::Refused { line, cause },
-        });
+        self.advance(moment);
+        self.room(1)?;
+        self.enter(Event::Pass);
+        Ok(())
     }
 
-    /// Refuses a line, for a cause.
+    /// Refuses a line, by its number, for a cause.
     pub fn refuse(&mut self, moment: u64, line: u32, cause: Cause) -> Result<(), Full>
         requires later { self.old.last ≤ moment }
-        requires early { moment < 60_000 }
+        requires early { moment ≤ 10 ^ 15 }
         ensures ok { OnOk result (Enters self.old self.new moment (Event.Refused line cause)) }
         ensures full { IfErr result (IsFull self.new 1) }
         ensures err { OnErr result (Advances self.old self.new moment) }
     {
-        self.pass_time(moment);
+        self.advance(moment);
         self.room(1)?;
-        self.push_refused(line, cause);
+        self.enter(Event::Refused { line, cause });
         Ok(())
     }
 
-    fn push_device(&mut self, registration: Registration)
-        requires room { HasRoom self.old 1 }
-        requires first { devices self.old.history ≡ 0 }
-        requires plain { registration.definition ≡ plain }
-        ensures { self.new ≡ with_event (Event.Device (record { 0 = 0 }) registration) self.old }
-    {
-        let moment = self.last;
-        self.journal.push(Entry {
-            moment,
-            event: Event::Device {
-                reg: Reg(0),
-                registration,
-            },
-        });
-        self.has_device = true;
-    }
-
-    /// Registers the only device, which has the plain definition.
-    pub fn register(&mut self, moment: u64, registration: Registration) -> Result<(), Full>
+    /// Something of what the fencer knows changes. An operator's word makes its replies due.
+    pub fn note(&mut self, moment: u64, change: Change) -> Result<(), Full>
         requires later { self.old.last ≤ moment }
-        requires early { moment < 60_000 }
-        requires first { devices self.old.history ≡ 0 }
-        requires plain { registration.definition ≡ plain }
-        ensures ok { OnOk result (Enters self.old self.new moment (Event.Device (record { 0 = 0 }) registration)) }
+        requires early { moment ≤ 10 ^ 15 }
+        requires ordered { in_order (event_of self.old.history change) self.old.history ≡ true }
+        requires bounded { IsBoundedEvent (event_of self.old.history change) }
+        ensures ok { OnOk result (Enters self.old self.new moment (event_of self.old.history change)) }
         ensures full { IfErr result (IsFull self.new 1) }
         ensures err { OnErr result (Advances self.old self.new moment) }
     {
-        self.pass_time(moment);
+        self.advance(moment);
         self.room(1)?;
-        self.push_device(registration);
+        self.enter_change(change);
         Ok(())
     }
 
-    fn push_ask(&mut self, client: Text, target: Text, kept: Text) -> Result<Req, NoMemory>
-        requires room { HasRoom self.old 6 }
-        requires device { devices self.old.history ≡ 1 }
-        requires free { list_any (λ (o : Operation). bytes_eq target o.target) (open_operations self.old.history) ≡ false }
-        requires kept { kept ≡ target }
-        ensures ok { IfOk result (λ req. self.new ≡ with_event (ask_of req client target) self.old) }
-        ensures number { IfOk result (λ req. req.0 ≡ asks self.old.history) }
-        ensures err { OnErr result (self.new ≡ self.old) }
-    {
-        let req = Req(self.next_req);
-        let begin = self.last;
-        self.opens.push(Open {
-            req,
-            target: kept,
-            begin,
-            stage: Stage::Waiting,
-        })?;
-        self.next_req += 1;
-        self.journal.push(Entry {
-            moment: begin,
-            event: Event::Ask {
-                req,
-                lead: req,
-                client,
-                kind: Kind::Off,
-                target,
-                total: TOTAL,
-                coin: 0,
-                scope: Scope::Nothing,
-            },
-        });
-        Ok(req)
-    }
-
-    /// A client asks that the target be switched off. It needs room for a start and an exit of each of
-    /// the two tries, for its own entry, and for its reply.
+    /// A client asks for an action on a target. The request joins the operation that it can join, or begins its
+    /// own with this plan.
     pub fn ask(
         &mut self,
         alloc: Global,
         moment: u64,
-        client: Text,
-        target: Text,
+        ask: Ask,
+        plan: Plan,
     ) -> Result<Req, AskRefusal>
         requires later { self.old.last ≤ moment }
-        requires early { moment < 60_000 }
-        requires device { devices self.old.history ≡ 1 }
-        requires free { list_any (λ (o : Operation). bytes_eq target o.target) (open_operations self.old.history) ≡ false }
-        ensures ok { IfOk result (λ req. Enters self.old self.new moment (ask_of req client target)) }
+        requires early { moment ≤ 10 ^ 15 }
+        requires kind { may_ask ask.kind ≡ true }
+        requires some_time { 1 ≤ ask.total }
+        requires most_time { ask.total ≤ 86_400_000 }
+        requires in_place { is_in_place plan.scope ask.target self.old.history ≡ true }
+        requires planned { IsPlanOf self.old.history moment ask.kind ask.target plan }
+        ensures ok { IfOk result (Asks self.old self.new moment ask plan) }
         ensures number { IfOk result (λ req. req.0 ≡ asks self.old.history) }
-        ensures full { IfErr result (IsAskRefusal self.new) }
+        ensures refusal { IfErr result (IsAskRefusal self.new ask plan) }
         ensures err { OnErr result (Advances self.old self.new moment) }
     {
-        self.pass_time(moment);
-        self.room(6)?;
-        let kept = Text::new(alloc, target.as_str())?;
-        Ok(self.push_ask(client, target, kept)?)
+        self.advance(moment);
+        let req = Req(self.next_req);
+        self.take(alloc, ask, plan)?;
+        Ok(req)
     }
 
-    /// A run has ended. The refusal comes exactly where the run is not alive. No room is needed: the
-    /// entries that an exit needs were owed since its operation was accepted.
+    /// A run has ended. The refusal comes exactly where the run is not alive. No room is needed: the entries that
+    /// an exit needs were owed since its operation was accepted.
     pub fn exit(
         &mut self,
         moment: u64,
@@ -278,77 +219,37 @@ impl Core {
         listed: bool,
     ) -> Result<(), UnknownRun>
         requires later { self.old.last ≤ moment }
-        requires early { moment < 60_000 }
+        requires early { moment ≤ 10 ^ 15 }
         ensures ok { OnOk result (Enters self.old self.new moment (Event.Exit run exit listed)) }
         ensures alive { IsOk result ↔ (is_alive run.0 self.old.history ≡ true) }
         ensures err { OnErr result (Advances self.old self.new moment) }
     {
-        self.pass_time(moment);
-        let running = match self.running {
-            None => return Err(UnknownRun),
-            Some(running) => running,
-        };
-        if running.run.0 != run.0 {
+        self.advance(moment);
+        if !self.parts.is_alive(run) {
             return Err(UnknownRun);
         }
-        self.journal.push(Entry {
-            moment,
-            event: Event::Exit {
-                run: running.run,
-                exit,
-                listed,
-            },
-        });
-        self.running = None;
-        match conclusion(&self.opens, running.req, exit) {
-            Some(answer) => {
-                self.journal.push(Entry {
-                    moment,
-                    event: Event::Reply {
-                        req: running.req,
-                        answer,
-                    },
-                });
-                close(&mut self.opens, running.req);
-            }
-            None => see_failure(&mut self.opens, running.req, moment),
-        }
+        self.parts.end_run(moment, run, exit, listed);
+        self.parts.give_replies(moment);
         Ok(())
     }
 
+    /// The first try that may start at the last moment, with the number that its run would have. None exactly
+    /// where no try may start.
+    pub fn due_start(&self) -> Option<Started>
+        ensures none { IsNone result ↔ (first self.now.history self.now.last ≡ None) }
+        ensures some { IfSome result (IsStart self.now) }
+    {
+        self.parts.first_start(self.last, Run(self.next_run))
+    }
+
     /// Starts the first try that may start at the last moment. None exactly where no try may start.
-    pub fn next_start(&mut self) -> Option<Run>
+    pub fn next_start(&mut self) -> Option<Started>
         ensures none { IsNone result ↔ (first self.old.history self.old.last ≡ None) }
         ensures unchanged { IfNone result (self.new ≡ self.old) }
         ensures some { IfSome result (Starts self.old self.new) }
     {
-        if self.running.is_some() {
-            return None;
-        }
-        let ready = first_ready(&self.opens)?;
-        let run = Run(self.next_run);
-        let moment = self.last;
+        let started = self.parts.start_next(self.last, Run(self.next_run))?;
         self.next_run += 1;
-        self.journal.push(Entry {
-            moment,
-            event: Event::Start {
-                run,
-                req: ready.req,
-                slot: Slot {
-                    phase: Phase::Act,
-                    level: 1,
-                    place: 0,
-                },
-                reg: Reg(0),
-                kind: Kind::Off,
-                attempt: ready.attempt,
-            },
-        });
-        self.running = Some(Running {
-            run,
-            req: ready.req,
-        });
-        see_start(&mut self.opens, ready.req);
-        Some(run)
+        Some(started)
     }
 }

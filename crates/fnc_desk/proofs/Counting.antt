@@ -1,37 +1,18 @@
 -- Each line that is taken gives one input entry.
-use Rattle.std.proofs.Common.{ℕ, [], ◌∷◌, ◌++◌, Bool, true, false, ◌≡◌, ◌+◌, ◌==◌, ◌&&◌, not, cond, nat_le, inl, inr, refl, ap, ◌∙◌}
+use Rattle.std.proofs.Common.{ℕ, ◌∷◌, ◌++◌, Bool, true, false, ◌≡◌, ◌+◌, ◌==◌, ◌&&◌, not, cond, nat_le, inl, inr, refl, ap, ◌∙◌}
 use Rattle.fnc_journal.specs.declared.cause.Cause.{Cause}
 use Rattle.fnc_journal.specs.declared.entry.Entry.{Entry}
 use Rattle.fnc_journal.specs.declared.entry.Exit.{Exit}
 use Rattle.fnc_journal.specs.declared.entry.Event.{Event}
 use Rattle.fnc_journal.specs.History.{History}
-use Rattle.fnc_journal.specs.Found.{devices, is_input, is_reply}
-use Rattle.fnc_journal.specs.Served.{AreReplies}
+use Rattle.fnc_journal.specs.Found.{devices, is_input}
 use Rattle.fnc_journal.specs.Startable.{is_alive}
 use Rattle.fnc_outside.specs.Events.{Happening}
 use Rattle.fnc_core.specs.Cored.{Cored, Enters}
 use Rattle.fnc_desk.specs.Said.{Said, said}
 use Rattle.fnc_desk.specs.Entered.{TakesLine, TakesInput}
+use Rattle.fnc_desk.proofs.Replied.{inputs-replied}
 use Rattle.fnc_desk.specs.Inputs.{Gives, IsInput, device_input, has_operation, input_of, inputs, refused, request_input}
-
-reply-is_output : (event : Event) → is_reply event ≡ true → is_input event ≡ false
-reply-is_output (Event.Reply req answer) e = refl
-reply-is_output (Event.Device reg registration) e = cc
-reply-is_output (Event.Gone reg) e = cc
-reply-is_output (Event.Level target index devices) e = cc
-reply-is_output (Event.LevelGone target index) e = cc
-reply-is_output (Event.Agent name description) e = cc
-reply-is_output (Event.Ask req lead client kind target total coin scope) e = cc
-reply-is_output (Event.Exit run exit listed) e = cc
-reply-is_output Event.Pass e = cc
-reply-is_output (Event.Confirm client target) e = cc
-reply-is_output (Event.Refused line cause) e = cc
-reply-is_output (Event.Start run req slot reg kind attempt) e = cc
-
--- replies are no inputs
-pub inputs-replies : (m : ℕ) (rs h : History) → AreReplies m rs → inputs (rs ++ h) ≡ inputs h
-inputs-replies m [] h a = refl
-inputs-replies m (r ∷ rs) h a = rw (reply-is_output r.event a.0.0) (inputs-replies m rs h a.1)
 
 -- what a line calls for is an input
 called-is_input : (s : Said) (h : History) (last n : ℕ) → is_input (input_of s h last n).event ≡ true
@@ -67,14 +48,11 @@ given-is_input Happening.Again h last n e g = absurd g
 entered-counted : (old new : Cored) (e : Entry) → is_input e.event ≡ true → Enters old new e.moment e.event → inputs new.history ≡ inputs old.history + 1
 entered-counted old new e is n =
     ap inputs n.history
-    ∙ inputs-replies e.moment n.replies (e ∷ (n.advance ++ old.history)) n.answered
-    ∙ rw is (ap (λ k. k + 1) (inputs-replies e.moment n.advance old.history n.at_once))
+    ∙ inputs-replied e.moment n.replies (e ∷ (n.advance ++ old.history)) n.answered
+    ∙ rw is (ap (λ k. k + 1) (inputs-replied e.moment n.advance old.history n.at_once))
 
 pub line-counted : (x : Happening) (old new : Cored) → TakesLine x old new → inputs new.history ≡ inputs old.history + 1
-line-counted x old new t = entered-counted old new t.entry (given-is_input x old.history old.last _ t.entry t.is) t.enters
-
-pub said-counted : (s : Said) (old new : Cored) (last n : ℕ) → TakesInput (input_of s old.history last n) old new → inputs new.history ≡ inputs old.history + 1
-said-counted s old new last n t = entered-counted old new t.entry (or-no-memory _ t.entry _ (called-is_input s old.history last n) t.is) t.enters
+line-counted x old new t = entered-counted old new t.entry (given-is_input x (t.enters.advance ++ old.history) old.last _ t.entry t.is) t.enters
 
 pub refused-counted : (old new : Cored) (m n : ℕ) (cause : Cause) → TakesInput (refused m n cause) old new → inputs new.history ≡ inputs old.history + 1
 refused-counted old new m n cause t = entered-counted old new t.entry (or-no-memory (refused m n cause) t.entry _ refl t.is) t.enters

@@ -1,5 +1,10 @@
+pub mod OneDevice
+pub mod OffOperations
+pub mod Asking
+pub mod Replied
 pub mod Entering
 pub mod Counting
+pub mod Given
 pub mod Pieces
 pub mod Naming
 pub mod Escapes

@@ -6,14 +6,16 @@ use Rattle.fnc_journal.specs.declared.cause.Cause.{Cause}
 use Rattle.fnc_journal.specs.declared.entry.Entry.{Entry}
 use Rattle.fnc_journal.specs.declared.entry.Event.{Event}
 use Rattle.fnc_journal.specs.declared.entry.Exit.{Exit}
+use Rattle.fnc_journal.specs.declared.entry.Kind.{Kind}
+use Rattle.fnc_journal.specs.declared.entry.Req.{Req}
+use Rattle.fnc_journal.specs.declared.entry.Scope.{Scope}
 use Rattle.fnc_journal.specs.History.{History}
 use Rattle.fnc_journal.specs.Found.{asks, devices, is_input}
 use Rattle.fnc_journal.specs.Operations.{open_operations}
 use Rattle.fnc_journal.specs.Slots.{Operation}
 use Rattle.fnc_journal.specs.Startable.{is_alive}
 use Rattle.fnc_outside.specs.Events.{Happening}
-use Rattle.fnc_core.specs.Cored.{ask_of}
-use Rattle.fnc_core.specs.Plain.{plain}
+use Rattle.fnc_desk.specs.Plain.{plain}
 use Rattle.fnc_desk.specs.Said.{Said, said}
 
 -- how many inputs a journal has
@@ -40,6 +42,10 @@ has_operation target h = list_any (λ (o : Operation). bytes_eq target o.target)
 -- the first device
 abbrev pub device_input : ℕ → List ℕ → Entry
 device_input m name = record { moment = m; event = Event.Device (record { 0 = 0 }) (plain_registration name) }
+
+-- a request for `off` that begins its own operation, with the default total
+abbrev pub ask_of : Req → List ℕ → List ℕ → Event
+ask_of req client target = Event.Ask req req client Kind.Off target 600_000 0 Scope.Nothing
 
 -- a request for `off`, with the number that comes next
 abbrev pub request_input : ℕ → List ℕ → List ℕ → History → Entry

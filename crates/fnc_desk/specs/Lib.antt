@@ -1,3 +1,5 @@
+pub mod Plain
+pub mod FirstSession
 pub mod Said
 pub mod Inputs
 pub mod Reading

@@ -6,10 +6,9 @@ ghost use Rattle.fnc_outside.specs.Events.{Happening};
 ghost use Rattle.fnc_core.specs.Cored.{Sound, Starts};
 ghost use Rattle.fnc_desk.specs.Entered.{TakesLine, LacksRoom};
 
-use crate::input::{refuse, understand};
-use crate::line::read_line;
-use fnc_core::Core;
-use fnc_journal::{Cause, Full, Journal, NoMemory, Run};
+use crate::input::{enter_line, refuse};
+use fnc_core::{Core, Started};
+use fnc_journal::{Cause, Full, Journal, NoMemory};
 use std::alloc::Global;
 use std::marker::Model;
 
@@ -24,13 +23,14 @@ pub struct Desk {
 impl Model for Desk {
     ghost use Rattle.std.specs.Prelude.{◌≡◌, ◌-◌, ◌^◌, min};
     ghost use Rattle.fnc_core.specs.Cored.{Cored};
+    ghost use Rattle.fnc_desk.specs.FirstSession.{IsFirst};
     ghost use Rattle.fnc_desk.specs.Inputs.{inputs};
 
     ghost Value = { Cored };
 
     ghost view = { λ d. d.core };
 
-    ghost invariant = { λ d. d.lines ≡ min (inputs d.core.history) (2 ^ 32 - 1) };
+    ghost invariant = { λ d. (d.lines ≡ min (inputs d.core.history) (2 ^ 32 - 1)) × IsFirst d.core.history };
 }
 
 impl Desk {
@@ -75,7 +75,7 @@ impl Desk {
         ensures full { IfErr result (LacksRoom (Happening.Line line.now) self.old self.new) }
     {
         let number = self.lines.saturating_add(1);
-        understand(&mut self.core, self.alloc, number, read_line(line))?;
+        enter_line(&mut self.core, self.alloc, number, line)?;
         self.lines = number;
         Ok(())
     }
@@ -93,7 +93,7 @@ impl Desk {
     }
 
     /// Starts the first try that may start at the last moment. None exactly where no try may start.
-    pub fn note_start(&mut self) -> Option<Run>
+    pub fn note_start(&mut self) -> Option<Started>
         ensures none { IsNone result ↔ (first self.old.history self.old.last ≡ None) }
         ensures unchanged { IfNone result (self.new ≡ self.old) }
         ensures some { IfSome result (Starts self.old self.new) }

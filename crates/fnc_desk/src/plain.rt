@@ -1,11 +1,13 @@
-// The registration of a device without options.
+// The registration of a device without options, and the plan of what it alone serves.
 
 ghost use Rattle.std.specs.Prelude.{◌≡◌, IfOk, codes};
-ghost use Rattle.fnc_core.specs.Plain.{plain, default_allowed};
+ghost use Rattle.fnc_desk.specs.Plain as Plain;
+ghost use Rattle.fnc_desk.specs.Plain.{plain, default_allowed};
 ghost use Rattle.fnc_desk.specs.Inputs.{plain_registration};
 
 use fnc_journal::{
-    Actions, Allowed, Base, Definition, HostCheck, NoMemory, Registration, Sequence, Text,
+    Actions, Allowed, Base, Candidate, Definition, HostCheck, NoMemory, Plan, Reg, Registration,
+    Scope, Sequence, Text,
 };
 use std::alloc::Global;
 
@@ -62,5 +64,21 @@ pub(crate) fn registration(alloc: Global, name: &str) -> Result<Registration, No
         name: Text::new(alloc, name)?,
         agent: Text::new(alloc, "fence_model")?,
         definition: definition(alloc)?,
+    })
+}
+
+/// The plan of a request that the only device serves: it is tried without a query.
+pub(crate) fn only_plan(alloc: Global) -> Result<Plan, NoMemory>
+    ensures { IfOk result (λ p. p ≡ Plain.only_plan) }
+{
+    let mut candidates = Sequence::new(alloc);
+    candidates.push(Candidate {
+        reg: Reg(0),
+        query: None,
+    })?;
+    Ok(Plan {
+        scope: Scope::Nothing,
+        levels: Sequence::new(alloc),
+        candidates,
     })
 }

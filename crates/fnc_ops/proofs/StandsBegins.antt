@@ -81,7 +81,7 @@ module _ (r : Request) (p : Plan) (h : History) (client : List ℕ) (lawful : La
   others-stand (k ∷ ks) [] less z = absurd z
   others-stand (k ∷ ks) (o ∷ os) less z = (other-stands k o less.0 z.0, others-stand ks os less.1 z.1)
 
-  opened : open_operations after ≡ open_operations h ++ begun ∷ []
+  pub opened : open_operations after ≡ open_operations h ++ begun ∷ []
   opened =
       open-asked h lawful r.moment r.req.0 client r.kind r.target r.total r.coin p.scope number
       ∙ ap (λ (q : Plan). open_operations h ++ operation_by r.req.0 (asked_of r p.scope h) q ∷ []) (sym planned)

@@ -2,6 +2,7 @@
 use Rattle.std.proofs.Common.{ℕ, List, [], ◌∷◌, ◌++◌, Bool, true, false, ◌≡◌, ◌+◌, ◌<◌, refl, ap, ap₂, sym, ◌∙◌, subst, Option, Some, None, arith, inl, inr, cond, length, length-append, append-nil, reverse}
 use Rattle.std.specs.Prelude.{filter, unwrap_or, IfSome}
 use Rattle.std.proofs.lemmas.List.{reverse-append}
+use Rattle.fnc_journal.specs.declared.entry.Entry.{Entry}
 use Rattle.fnc_journal.specs.declared.outcome.Full.{Full}
 use Rattle.fnc_journal.specs.declared.outcome.Outcome.{Outcome}
 use Rattle.fnc_journal.specs.History.{History, Journaled}
@@ -9,6 +10,7 @@ use Rattle.fnc_journal.specs.Driven.{last_input}
 use Rattle.fnc_journal.specs.Found.{is_input}
 use Rattle.fnc_journal.specs.Lawful.{last_moment}
 use Rattle.fnc_journal.specs.Owed.{owed}
+use Rattle.fnc_journal.specs.Served.{AreReplies}
 use Rattle.fnc_outside.specs.Events.{Happening}
 use Rattle.fnc_outside.specs.Told.{Gains}
 use Rattle.fnc_outside.proofs.Telling.{gains-gains}
@@ -56,6 +58,16 @@ lines-outputs : (m : ℕ) (os h : History) (lines : List Happening) → AreOutpu
 lines-outputs m [] h lines a l = l
 lines-outputs m (o ∷ os) h lines a l = rw a.0.0 (lines-outputs m os h lines a.1 l)
 
+-- what a line gave with the last moment and its number, it gave with those of the lines that came
+gives-heard : (line : Happening) (lines : List Happening) (old : Cored) (e : Entry) (m : ℕ) (rs : History) → AreReplies m rs → AreLines old.history lines → last_come old.history ≡ old.last →
+    Gives line (rs ++ old.history) old.last (line_number (inputs old.history)) e → Gives line (rs ++ old.history) (last_come (rs ++ old.history)) (line_number (length lines)) e
+gives-heard line lines old e m rs r a l g =
+    subst (λ n. Gives line (rs ++ old.history) n (line_number (length lines)) e) (sym (last_come-replies ∙ l))
+    (subst (λ n. Gives line (rs ++ old.history) old.last (line_number n) e) (inputs-lines old.history lines a) g)
+  where
+    last_come-replies : last_come (rs ++ old.history) ≡ last_come old.history
+    last_come-replies = ap (λ (o : Option ℕ). unwrap_or o 0) (last_input-outputs m rs old.history (outputs-replies m rs r))
+
 -- a line that was served gave the newest input
 lines-served : (line : Happening) (lines : List Happening) (old new : Cored) → AreLines old.history lines → last_come old.history ≡ old.last → ServesLine line old new → AreLines new.history (line ∷ lines)
 lines-served line lines old new a l s =
@@ -63,25 +75,26 @@ lines-served line lines old new a l s =
     (lines-outputs s.mid.last s.starts.some.starts _ (line ∷ lines) (outputs-starts s.mid.last s.starts.some.starts s.starts.some.started)
     (lines-outputs s.takes.entry.moment s.takes.enters.replies _ (line ∷ lines) (outputs-replies s.takes.entry.moment s.takes.enters.replies s.takes.enters.answered) here))
   where
-    whole : new.history ≡ s.starts.some.starts ++ (s.takes.enters.replies ++ s.takes.entry ∷ old.history)
-    whole =
-        s.starts.some.history
-        ∙ ap (λ (h : History). s.starts.some.starts ++ h) (s.takes.enters.history ∙ ap (λ (h : History). s.takes.enters.replies ++ s.takes.entry ∷ (h ++ old.history)) s.takes.enters.quiet)
+    met : History
+    met = s.takes.enters.advance ++ old.history
 
-    gives : Gives line old.history (last_come old.history) (line_number (length lines)) s.takes.entry
-    gives =
-        subst (λ n. Gives line old.history n (line_number (length lines)) s.takes.entry) (sym l)
-        (subst (λ n. Gives line old.history old.last (line_number n) s.takes.entry) (inputs-lines old.history lines a) s.takes.is)
+    whole : new.history ≡ s.starts.some.starts ++ (s.takes.enters.replies ++ s.takes.entry ∷ met)
+    whole = s.starts.some.history ∙ ap (λ (h : History). s.starts.some.starts ++ h) s.takes.enters.history
 
-    here : AreLines (s.takes.entry ∷ old.history) (line ∷ lines)
-    here = let is : is_input s.takes.entry.event ≡ true = given-is_input line old.history old.last _ s.takes.entry s.takes.is in rw is (gives, a)
+    here : AreLines (s.takes.entry ∷ met) (line ∷ lines)
+    here =
+        let is : is_input s.takes.entry.event ≡ true = given-is_input line met old.last _ s.takes.entry s.takes.is in
+        rw is (
+          gives-heard line lines old s.takes.entry s.takes.entry.moment s.takes.enters.advance s.takes.enters.at_once a l s.takes.is,
+          lines-outputs s.takes.entry.moment s.takes.enters.advance old.history lines (outputs-replies s.takes.entry.moment s.takes.enters.advance s.takes.enters.at_once) a,
+        )
 
 -- and its moment is the last
 last-served : (line : Happening) (old new : Cored) → ServesLine line old new → last_come new.history ≡ new.last
 last-served line old new s = ap (λ (o : Option ℕ). unwrap_or o 0) found ∙ sym (s.starts.some.last ∙ s.takes.enters.last)
   where
     is : is_input s.takes.entry.event ≡ true
-    is = given-is_input line old.history old.last _ s.takes.entry s.takes.is
+    is = given-is_input line (s.takes.enters.advance ++ old.history) old.last _ s.takes.entry s.takes.is
 
     found : last_input new.history ≡ Some s.takes.entry.moment
     found =
@@ -93,19 +106,15 @@ last-served line old new s = ap (λ (o : Option ℕ). unwrap_or o 0) found ∙ s
 -- a line that finds no room
 lacks-room : (line : Happening) (lines : List Happening) (full : Full) (old new : Cored) → AreLines old.history lines → last_come old.history ≡ old.last → LacksRoom line old new full → NewestFindsNoRoom (line ∷ lines) new full
 lacks-room line lines full old new a l k = (
-  subst (λ (h : History). AreLines h lines) (sym same) a,
+  subst (λ (h : History). AreLines h lines) (sym k.advances.history) (lines-outputs k.entry.moment k.advances.advance old.history lines (outputs-replies k.entry.moment k.advances.advance k.advances.at_once) a),
   record {
     entry = k.entry;
     gives =
-        subst (λ (h : History). Gives line h (last_come h) (line_number (length lines)) k.entry) (sym same)
-        (subst (λ n. Gives line old.history n (line_number (length lines)) k.entry) (sym l)
-        (subst (λ n. Gives line old.history old.last (line_number n) k.entry) (inputs-lines old.history lines a) k.is));
+        subst (λ (h : History). Gives line h (last_come h) (line_number (length lines)) k.entry) (sym k.advances.history)
+        (gives-heard line lines old k.entry k.entry.moment k.advances.advance k.advances.at_once a l k.is);
     is_full = k.is_full;
   },
 )
-  where
-    same : new.history ≡ old.history
-    same = k.advances.history ∙ ap (λ (h : History). h ++ old.history) k.advances.quiet
 
 -- what was served is what the source gave
 pub takes-line : (t : Taken) (line : Happening) (old new : Cored) (before after left : Option (List Happening)) (reads reads' : ℕ) → is_line line ≡ true → Gains before after (line ∷ []) → Serves t line old new →

@@ -4,7 +4,6 @@ use Rattle.std.specs.Prelude.{◌⊎◌}
 use Rattle.std.specs.List.{AllByRecursion}
 use Rattle.fnc_journal.specs.declared.entry.Entry.{Entry}
 use Rattle.fnc_journal.specs.declared.entry.Event.{Event}
-use Rattle.fnc_journal.specs.declared.entry.Run.{Run}
 use Rattle.fnc_journal.specs.declared.outcome.Full.{Full}
 use Rattle.fnc_journal.specs.declared.outcome.Outcome.{Outcome}
 use Rattle.fnc_journal.specs.History.{History, Journaled}
@@ -15,7 +14,8 @@ use Rattle.fnc_journal.specs.Driven.{Driven, DrivenInputs, last_input, is_at_onc
 use Rattle.fnc_journal.specs.Served.{AtRest, AreReplies}
 use Rattle.fnc_journal.proofs.Lawfulness.{in_order-of}
 use Rattle.fnc_journal.proofs.DrivenSteps.{reply-no_input, rests-next, rests-same, rests-end, rests_before-output}
-use Rattle.fnc_core.specs.Cored.{Cored, IsFull, Sound, Starts, start_of}
+use Rattle.fnc_core.specs.Cored.{Cored, IsFull, Sound, Starts}
+use Rattle.fnc_core.specs.declared.change.Started.{Started}
 use Rattle.fnc_desk.specs.Entered.{TakesLine, LacksRoom}
 use Rattle.fnc_desk.proofs.Counting.{given-is_input}
 use Rattle.fnc_replay.specs.Rests.{Rests, AreStarts, StartsSome, StartsAll, ServesLine}
@@ -116,7 +116,7 @@ pub rests-served : (line : Happening) (old mid new : Cored) → Rests old → Ta
 rests-served line old mid new r t s k = record { inputs = subst DrivenInputs (sym whole) driven; rest = inr (record { last = last_is; at_once = once; settled_now = k.settled_now; idle = s.idle }) }
   where
     is-line : is_input t.entry.event ≡ true
-    is-line = given-is_input line old.history old.last _ t.entry t.is
+    is-line = given-is_input line (t.enters.advance ++ old.history) old.last _ t.entry t.is
 
     lead : History
     lead = t.enters.advance ++ old.history
@@ -199,15 +199,19 @@ driven-passed line full old new r p k = (subst (λ h. rests None h ≡ true) (sy
         ap (rests None) (empty-append p.advances.advance old.history e ∙ none)
     go (inr t) = rest t (old.last == p.entry.moment) refl
 
+-- the entry of a start
+abbrev start_of : Cored → Started → Entry
+start_of v s = record { moment = v.last; event = Event.Start s.run s.req s.slot s.reg s.kind s.attempt }
+
 -- no start yet, and one more
 pub starts-none : (v : Cored) → StartsSome v v
 starts-none v = record { starts = []; started = tt; history = refl; last = refl; limit = refl }
 
-pub starts-more : (old mid new : Cored) (run : Run) → StartsSome old mid → Starts mid new run → StartsSome old new
-starts-more old mid new run a b = record {
-  starts = start_of mid run b.startable ∷ a.starts;
+pub starts-more : (old mid new : Cored) (s : Started) → StartsSome old mid → Starts mid new s → StartsSome old new
+starts-more old mid new s a b = record {
+  starts = start_of mid s ∷ a.starts;
   started = ((refl, a.last), a.started);
-  history = b.history ∙ ap (λ h. start_of mid run b.startable ∷ h) a.history;
+  history = b.history ∙ ap (λ h. start_of mid s ∷ h) a.history;
   last = b.last ∙ a.last;
   limit = b.limit ∙ a.limit;
 }

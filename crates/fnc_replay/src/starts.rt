@@ -8,5 +8,5 @@ use fnc_desk::Desk;
 pub(crate) fn start_all(desk: &mut Desk)
     ensures { StartsAll desk.old desk.new }
 {
-    while let Some(_run) = desk.note_start() {}
+    while let Some(_started) = desk.note_start() {}
 }

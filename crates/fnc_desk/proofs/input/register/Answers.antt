@@ -2,17 +2,18 @@
 use Rattle.std.proofs.Common.{subst}
 use Rattle.std.specs.Prelude.{OnOk, IfErr}
 use Rattle.fnc_journal.specs.declared.definition.Registration.{Registration}
-use Rattle.fnc_journal.specs.declared.entry.Event.{Event}
 use Rattle.fnc_desk.specs.Entered.{TakesInput, InputLacksRoom}
-use Rattle.fnc_desk.proofs.Entering.{takes-result, lacks-result}
+use Rattle.fnc_desk.proofs.Entering.{device_entry, lacks-result, takes-result}
 use Rattle.fnc_desk.proofs.input.register.Goals as goal
 
 pub returns-in-Ok-clause-ok : goal.returns-in-Ok-clause-ok
 returns-in-Ok-clause-ok c =
-    subst (λ (r : Registration). OnOk c.register.result (TakesInput (record { moment = c.args.moment; event = Event.Device (record { 0 = 0 }) r }) c.args.core.now c.register.new.self)) c.in-Ok.ensures
-    (takes-result (record { moment = c.args.moment; event = Event.Device (record { 0 = 0 }) c.in-Ok.registration }) _ _ c.register.result c.requires.later c.register.ensures.ok)
+    subst (λ (r : Registration). OnOk c.note.result (TakesInput (device_entry c.args.moment 0 r) c.args.core.now c.note.new.self)) c.in-Ok.ensures
+    (subst (λ n. OnOk c.note.result (TakesInput (device_entry c.args.moment n c.in-Ok.registration) c.args.core.now c.note.new.self)) c.requires.first
+    (takes-result _ _ _ c.note.result c.requires.later c.note.ensures.ok))
 
 pub returns-in-Ok-clause-full : goal.returns-in-Ok-clause-full
 returns-in-Ok-clause-full c =
-    subst (λ (r : Registration). IfErr c.register.result (InputLacksRoom (record { moment = c.args.moment; event = Event.Device (record { 0 = 0 }) r }) c.args.core.now c.register.new.self)) c.in-Ok.ensures
-    (lacks-result (record { moment = c.args.moment; event = Event.Device (record { 0 = 0 }) c.in-Ok.registration }) _ _ c.register.result c.requires.later c.register.ensures.err c.register.ensures.full)
+    subst (λ (r : Registration). IfErr c.note.result (InputLacksRoom (device_entry c.args.moment 0 r) c.args.core.now c.note.new.self)) c.in-Ok.ensures
+    (subst (λ n. IfErr c.note.result (InputLacksRoom (device_entry c.args.moment n c.in-Ok.registration) c.args.core.now c.note.new.self)) c.requires.first
+    (lacks-result (device_entry c.args.moment _ c.in-Ok.registration) _ _ c.note.result c.requires.later c.note.ensures.err c.note.ensures.full))

@@ -1,0 +1,60 @@
+-- An input that enters after an advance, and a request that is taken or not.
+use Rattle.std.proofs.Common.{ℕ, ◌∷◌, ◌++◌, ◌≡◌, refl, ap, ap₂, sym, ◌∙◌, subst, Option, Some, None, Result, Ok, Err}
+use Rattle.std.specs.Prelude.{option_map, unwrap_or, OnErr, IfErr}
+use Rattle.fnc_journal.specs.declared.entry.Event.{Event}
+use Rattle.fnc_journal.specs.declared.entry.Req.{Req}
+use Rattle.fnc_journal.specs.declared.plan.Plan.{Plan}
+use Rattle.fnc_journal.specs.History.{History}
+use Rattle.fnc_journal.specs.Found.{devices}
+use Rattle.fnc_journal.specs.Served.{AreReplies}
+use Rattle.fnc_journal.specs.Slots.{Operation}
+use Rattle.fnc_core.specs.declared.change.Ask.{Ask}
+use Rattle.fnc_core.specs.declared.change.Change.{Change}
+use Rattle.fnc_core.specs.declared.refusal.AskRefusal.{AskRefusal}
+use Rattle.fnc_core.specs.Cored.{Cored, Advances, Enters, Follows, Asks, IsRefusal, IsAskRefusal, ask_event, ask_need, event_of, lead_in, next_of}
+
+-- after an advance an input enters with its replies
+pub follows-enters : (old mid new : Cored) (m : ℕ) (event : Event) → Advances old mid m → Follows mid new event → Enters old new m event
+follows-enters old mid new m event a f = record {
+  advance = a.advance;
+  at_once = a.at_once;
+  still = a.still;
+  replies = f.replies;
+  answered = subst (λ n. AreReplies n f.replies) a.last f.answered;
+  history = f.history ∙ ap₂ (λ n h. f.replies ++ record { moment = n; event = event } ∷ h) a.last a.history;
+  last = f.last ∙ a.last;
+  limit = f.limit ∙ a.limit;
+}
+
+-- a request that was taken after an advance
+pub follows-asks : (old mid new : Cored) (m : ℕ) (k : Ask) (p : Plan) → Advances old mid m → Follows mid new (ask_event (next_of mid) (lead_in mid.history mid.last k (next_of mid)) k p) →
+    Asks old new m k p (next_of mid)
+unfolding follows-enters
+follows-asks old mid new m k p a f = record {
+  lead = lead_in mid.history mid.last k (next_of mid);
+  enters = follows-enters old mid new m (ask_event (next_of mid) (lead_in mid.history mid.last k (next_of mid)) k p) a f;
+  leads = ap₂ (λ h n. lead_in h n k (next_of mid)) a.history a.last;
+}
+
+-- a device's number is all that a change takes from the journal
+pub same-event : (g h : History) (change : Change) → devices g ≡ devices h → event_of g change ≡ event_of h change
+same-event g h (Change.Device registration) e = ap (λ n. Event.Device (record { 0 = n }) registration) e
+same-event g h (Change.Gone reg) e = refl
+same-event g h (Change.Level target index names) e = refl
+same-event g h (Change.LevelGone target index) e = refl
+same-event g h (Change.Agent name description) e = refl
+same-event g h (Change.Confirm client target) e = refl
+
+-- what joins nothing, and what joins an operation
+pub none-joined : (x : Option Operation) → ◌≡◌ {A = Option ℕ} None (option_map (λ (o : Operation). o.req) x) → x ≡ None
+none-joined None e = refl
+none-joined (Some o) e = cc
+
+pub lead-joined : (x : Option Operation) (lead : Req) (n : ℕ) → option_map (λ (o : Operation). o.req) x ≡ Some lead.0 → lead ≡ record { 0 = unwrap_or (option_map (λ (o : Operation). o.req) x) n }
+lead-joined x lead n e = ap (λ (y : Option ℕ). record { 0 = unwrap_or y n }) (sym e)
+
+-- a request that was not taken left everything as it was
+pub refused-by : (x : Result (Unit {0}) AskRefusal) (old new : Cored) (need : ℕ) (k : Ask) (p : Plan) → ask_need old k p ≡ need → IfErr x (IsRefusal new need) → OnErr x (new ≡ old) → IfErr x (IsAskRefusal new k p)
+refused-by (Ok u) old new need k p e r s = r
+refused-by (Err refusal) old new need k p e r s =
+    subst (λ (v : Cored). IsRefusal new (ask_need v k p) refusal) (sym s) (subst (λ n. IsRefusal new n refusal) (sym e) r)

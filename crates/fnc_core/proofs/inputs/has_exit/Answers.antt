@@ -1,0 +1,19 @@
+-- Entry by entry the search from the oldest on is the one that the definition makes.
+use Rattle.std.proofs.Common.{sym, ap, ◌∙◌, arith, ◌||◌}
+use Rattle.fnc_journal.specs.History.{History}
+use Rattle.fnc_journal.proofs.Prefixes.{prefix-all, prefix-more, prefix-none}
+use Rattle.fnc_journal.specs.Found.{has_exit, is_exit_of}
+use Rattle.fnc_core.proofs.inputs.has_exit.Goals as goal
+
+pub loop-index-init : goal.loop-index-init
+loop-index-init c = ap (λ (k : History). has_exit c.args.run.0 k) (sym (prefix-none c.args.journal.now.history))
+
+pub loop-index-preserved : goal.loop-index-preserved
+loop-index-preserved c =
+    let h : History = c.args.journal.now.history in
+    let e = c.entry.result.now in
+    c.is_exit_after-found.ensures ∙ ap (λ a. is_exit_of c.args.run.0 e.event || a) c.loop-index.invariant
+    ∙ ap (λ (k : History). has_exit c.args.run.0 k) (sym (prefix-more h c.loop-index.index e (omega (arith, c.loop-index-test.true, c.len-index-end.ensures)) c.entry.ensures))
+
+pub returns : goal.returns
+returns c = c.loop-index.invariant ∙ ap (λ (k : History). has_exit c.args.run.0 k) (prefix-all c.args.journal.now.history c.loop-index.index (omega (arith, c.loop-index-test.false, c.len-index-end.ensures)))

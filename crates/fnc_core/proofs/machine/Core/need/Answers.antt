@@ -1,0 +1,26 @@
+-- What is wanted is what the definition says.
+use Rattle.std.proofs.Common.{◌≡◌, ◌+◌, ◌*◌, ap, subst, refl, sym}
+use Rattle.fnc_journal.specs.Found.{Asked}
+use Rattle.fnc_ops.specs.Stands.{AreBounded}
+use Rattle.fnc_core.specs.Cored.{Cored, next_of}
+use Rattle.fnc_core.specs.Between.{need_of}
+use Rattle.fnc_core.specs.Parted.{Parted}
+use Rattle.fnc_core.proofs.machine.Core.need.Goals as goal
+
+pub allowed_tries-requires-clause-bounded : goal.allowed_tries-requires-clause-bounded
+allowed_tries-requires-clause-bounded c = subst (λ (p : Parted). AreBounded p.history) (sym (ap (λ i. i.parts) c.self-inside.view_is)) c.self.invariant.rests.between.bounded
+
+pub returns : goal.returns
+returns c =
+    let asked : Asked = record {
+      moment = c.self.inside.last;
+      lead = (next_of c.args.self.now).0;
+      kind = c.args.ask.now.kind;
+      target = c.args.ask.now.target;
+      total = c.args.ask.now.total;
+      coin = c.args.ask.now.coin;
+      scope = c.args.plan.now.scope;
+      before = c.self.inside.parts.history;
+    } in
+    subst (λ (v : Cored). 2 + 2 * c.allowed_tries.result ≡ need_of v.history v.last (next_of c.args.self.now) c.args.ask.now c.args.plan.now) c.self.view_is
+    (ap (λ n. 2 + 2 * n) (c.allowed_tries.ensures.tries (next_of c.args.self.now).0 asked refl (sym (ap (λ i. i.parts.history) c.self-inside.view_is))))

@@ -1,0 +1,25 @@
+-- The change enters after the advance.
+use Rattle.std.proofs.Common.{◌≡◌, ◌∙◌, ap, ap₂, subst}
+use Rattle.fnc_journal.specs.declared.entry.Event.{Event}
+use Rattle.fnc_journal.specs.Found.{devices}
+use Rattle.fnc_journal.specs.Lawful.{in_order}
+use Rattle.fnc_core.specs.Cored.{Enters, event_of}
+use Rattle.fnc_core.proofs.Following.{follows-enters, same-event}
+use Rattle.fnc_core.proofs.Replied.{devices-replied, in_order-replied}
+use Rattle.fnc_core.proofs.machine.Core.note.Goals as goal
+
+pub enter_change-requires-clause-ordered : goal.enter_change-requires-clause-ordered
+enter_change-requires-clause-ordered c =
+    let count : devices c.advance.new.self.history ≡ devices c.args.self.now.history =
+    ap devices c.advance.ensures.history ∙ devices-replied c.args.moment c.advance.ensures.advance c.args.self.now.history c.advance.ensures.at_once in
+    let same : event_of c.advance.new.self.history c.args.change ≡ event_of c.args.self.now.history c.args.change = same-event c.advance.new.self.history c.args.self.now.history c.args.change count in
+    ap₂ in_order same c.advance.ensures.history
+    ∙ in_order-replied c.args.moment c.advance.ensures.advance c.args.self.now.history c.advance.ensures.at_once (event_of c.args.self.now.history c.args.change) ∙ c.requires.ordered
+
+pub returns-clause-ok : goal.returns-clause-ok
+returns-clause-ok c =
+    let count : devices c.advance.new.self.history ≡ devices c.args.self.now.history =
+    ap devices c.advance.ensures.history ∙ devices-replied c.args.moment c.advance.ensures.advance c.args.self.now.history c.advance.ensures.at_once in
+    let same : event_of c.advance.new.self.history c.args.change ≡ event_of c.args.self.now.history c.args.change = same-event c.advance.new.self.history c.args.self.now.history c.args.change count in
+    subst (λ (e : Event). Enters c.args.self.now c.enter_change.new.self c.args.moment e) same
+    (follows-enters c.args.self.now c.advance.new.self c.enter_change.new.self c.args.moment (event_of c.advance.new.self.history c.args.change) c.advance.ensures c.enter_change.ensures)

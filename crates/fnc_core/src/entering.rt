@@ -1,0 +1,122 @@
+// What enters the core at its last moment, where there is room for it.
+
+ghost use Rattle.std.specs.Prelude.{◌≡◌, ◌≤◌, true, false, option_map, Some, None, OnOk, OnErr, IfErr};
+ghost use Rattle.fnc_journal.specs.declared.entry.Event.{Event};
+ghost use Rattle.fnc_journal.specs.Found.{is_device};
+ghost use Rattle.fnc_journal.specs.Lawful.{in_order, may_ask};
+ghost use Rattle.fnc_journal.specs.Operations.{joined};
+ghost use Rattle.fnc_core.specs.Between.{IsBoundedEvent, IsPlanOf, is_quiet, need_of};
+ghost use Rattle.fnc_journal.specs.Levels.{is_in_place};
+ghost use Rattle.fnc_core.specs.Cored.{Follows, HasRoom, IsRefusal, IsAskRefusal, ask_event, lead_in, next_of, event_of};
+
+use crate::change::{Ask, Change};
+use crate::machine::Core;
+use crate::refusal::AskRefusal;
+use fnc_journal::{Event, Plan, Reg, Req, Scope};
+use fnc_ops::allowed_tries;
+use std::alloc::Global;
+
+impl Core {
+    /// An input that touches no operation.
+    pub(crate) fn enter(&mut self, event: Event)
+        requires quiet { is_quiet event ≡ true }
+        requires undevice { is_device event ≡ false }
+        requires ordered { in_order event self.old.history ≡ true }
+        requires room { HasRoom self.old 1 }
+        ensures { Follows self.old self.new event }
+    {
+        self.parts.enter(self.last, event);
+    }
+
+    /// A change of what the fencer knows, with the replies that it makes due.
+    pub(crate) fn enter_change(&mut self, change: Change)
+        requires ordered { in_order (event_of self.old.history change) self.old.history ≡ true }
+        requires bounded { IsBoundedEvent (event_of self.old.history change) }
+        requires room { HasRoom self.old 1 }
+        ensures { Follows self.old self.new (event_of self.old.history change) }
+    {
+        match change {
+            Change::Device(registration) => {
+                let reg = Reg(self.next_reg);
+                self.parts
+                    .enter(self.last, Event::Device { reg, registration });
+                self.next_reg += 1;
+            }
+            Change::Gone(reg) => self.enter(Event::Gone { reg }),
+            Change::Level {
+                target,
+                index,
+                devices,
+            } => self.enter(Event::Level {
+                target,
+                index,
+                devices,
+            }),
+            Change::LevelGone { target, index } => self.enter(Event::LevelGone { target, index }),
+            Change::Agent { name, description } => self.enter(Event::Agent { name, description }),
+            Change::Confirm { client, target } => {
+                self.parts.confirm(self.last, client, target);
+                self.parts.give_replies(self.last);
+            }
+        }
+    }
+
+    /// A request joins an operation that is open, with the replies that it makes due.
+    fn join(&mut self, lead: Req, ask: Ask, scope: Scope) -> Result<(), AskRefusal>
+        requires ordered { in_order (Event.Ask (next_of self.old) lead ask.client ask.kind ask.target ask.total ask.coin scope) self.old.history ≡ true }
+        requires leads { option_map (λ o. o.req) (joined self.old.history self.old.last ask.kind ask.target) ≡ Some lead.0 }
+        ensures ok { OnOk result (Follows self.old self.new (Event.Ask (next_of self.old) lead ask.client ask.kind ask.target ask.total ask.coin scope)) }
+        ensures refusal { IfErr result (IsRefusal self.new 2) }
+        ensures err { OnErr result (self.new ≡ self.old) }
+    {
+        self.room(2)?;
+        self.parts
+            .join(self.last, lead, Req(self.next_req), ask, scope)?;
+        self.next_req += 1;
+        self.parts.give_replies(self.last);
+        Ok(())
+    }
+
+    /// The entries that a request wants which begins an operation: its own, its reply, and a start and an exit for
+    /// each allowed try.
+    fn need(&self, ask: &Ask, plan: &Plan) -> u32
+        requires planned { IsPlanOf self.now.history self.now.last ask.now.kind ask.now.target plan.now }
+        ensures { result ≡ need_of self.now.history self.now.last (next_of self.now) ask.now plan.now }
+    {
+        2 + 2 * allowed_tries(&self.parts.journal, ask.kind, plan)
+    }
+
+    /// A request begins an operation of its own, with a plan, and with the replies that it makes due.
+    fn begin(&mut self, alloc: Global, ask: Ask, plan: Plan) -> Result<(), AskRefusal>
+        requires ordered { in_order (ask_event (next_of self.old) (next_of self.old) ask plan) self.old.history ≡ true }
+        requires leads { joined self.old.history self.old.last ask.kind ask.target ≡ None }
+        requires planned { IsPlanOf self.old.history self.old.last ask.kind ask.target plan }
+        ensures ok { OnOk result (Follows self.old self.new (ask_event (next_of self.old) (next_of self.old) ask plan)) }
+        ensures refusal { IfErr result (IsRefusal self.new (need_of self.old.history self.old.last (next_of self.old) ask plan)) }
+        ensures err { OnErr result (self.new ≡ self.old) }
+    {
+        self.room(self.need(&ask, &plan))?;
+        self.parts
+            .begin(alloc, self.last, Req(self.next_req), ask, plan)?;
+        self.next_req += 1;
+        self.parts.give_replies(self.last);
+        Ok(())
+    }
+
+    /// A request joins the operation that it can join at the last moment, or begins its own with this plan.
+    pub(crate) fn take(&mut self, alloc: Global, ask: Ask, plan: Plan) -> Result<(), AskRefusal>
+        requires kind { may_ask ask.kind ≡ true }
+        requires some_time { 1 ≤ ask.total }
+        requires most_time { ask.total ≤ 86_400_000 }
+        requires in_place { is_in_place plan.scope ask.target self.old.history ≡ true }
+        requires planned { IsPlanOf self.old.history self.old.last ask.kind ask.target plan }
+        ensures ok { OnOk result (Follows self.old self.new (ask_event (next_of self.old) (lead_in self.old.history self.old.last ask (next_of self.old)) ask plan)) }
+        ensures refusal { IfErr result (IsAskRefusal self.new ask plan) }
+        ensures err { OnErr result (self.new ≡ self.old) }
+    {
+        match self.joinable(ask.target.as_str(), ask.kind) {
+            Some(lead) => self.join(lead, ask, plan.scope),
+            None => self.begin(alloc, ask, plan),
+        }
+    }
+}

@@ -1,0 +1,61 @@
+// The start that comes next.
+
+ghost use Rattle.std.specs.Prelude.{◌≡◌, ◌↔◌, None, IsNone, IfNone, IfSome};
+ghost use Rattle.fnc_journal.specs.Found.{starts};
+ghost use Rattle.fnc_journal.specs.Startable.{first};
+ghost use Rattle.fnc_core.specs.Between.{Rests, StartsNext, IsNextStart};
+
+use crate::change::Started;
+use crate::limits::limit_of;
+use crate::parts::Parts;
+use fnc_journal::{Entry, Event, Run};
+
+impl Parts {
+    /// The start that may be made first at a moment, with the number that its run would have. None exactly where
+    /// none may be made.
+    pub fn first_start(&self, moment: u64, run: Run) -> Option<Started>
+        requires rests { Rests moment self.now }
+        requires number { run.0 ≡ starts self.now.history }
+        ensures none { IsNone result ↔ (first self.now.history moment ≡ None) }
+        ensures some { IfSome result (IsNextStart moment self.now run) }
+    {
+        let item = self.queue.first(moment)?;
+        let standing = self.ops.waiting(item.req)?;
+        Some(Started {
+            run,
+            req: item.req,
+            slot: standing.slot,
+            reg: standing.reg,
+            kind: standing.kind,
+            attempt: standing.attempt,
+            limit: limit_of(&self.journal, item.req, standing, moment),
+        })
+    }
+
+    /// Makes that start.
+    pub fn start_next(&mut self, moment: u64, run: Run) -> Option<Started>
+        requires rests { Rests moment self.old }
+        requires number { run.0 ≡ starts self.old.history }
+        ensures none { IsNone result ↔ (first self.old.history moment ≡ None) }
+        ensures unchanged { IfNone result (self.new ≡ self.old) }
+        ensures some { IfSome result (IsNextStart moment self.old run) }
+        ensures starts { IfSome result (λ s. StartsNext moment s self.old self.new) }
+        ensures rests { Rests moment self.new }
+    {
+        let started = self.first_start(moment, run)?;
+        self.queue.take_first(moment);
+        self.ops.started(&self.journal, started.req, run, moment);
+        self.journal.push(Entry {
+            moment,
+            event: Event::Start {
+                run,
+                req: started.req,
+                slot: started.slot,
+                reg: started.reg,
+                kind: started.kind,
+                attempt: started.attempt,
+            },
+        });
+        Some(started)
+    }
+}
