@@ -14,3 +14,4 @@ pub mod Opening
 pub mod Testings
 pub mod Firsts
 pub mod Searches
+pub mod Writing

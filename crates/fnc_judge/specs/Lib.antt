@@ -11,3 +11,4 @@ pub mod Surveys
 pub mod Testing
 pub mod Tours
 pub mod Verdicts
+pub mod Written

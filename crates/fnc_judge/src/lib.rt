@@ -10,6 +10,7 @@ mod kept;
 mod level;
 mod numbers;
 mod past;
+mod planned;
 mod pursued;
 mod registered;
 mod requests;
@@ -22,4 +23,5 @@ mod task;
 mod tests;
 mod verdict;
 
+pub use planned::{is_in_order, is_plan};
 pub use verdict::{Verdict, judge};

@@ -99,7 +99,7 @@ fn is_operation(past: &Past<'_>, req: u32) -> bool
 }
 
 /// Whether the numbers, references and scope of an entry are in place.
-fn in_order(event: &Event, past: &Past<'_>) -> bool
+pub(crate) fn in_order(event: &Event, past: &Past<'_>) -> bool
     ensures { result ≡ Lawful.in_order event.now past.now }
 {
     match event {

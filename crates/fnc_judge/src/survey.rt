@@ -317,7 +317,11 @@ pub(crate) fn pattern_at<'a>(past: &Past<'a>, at: u32) -> Option<&'a str>
 }
 
 /// What the levels that a scope speaks of are for.
-fn scoped_target<'a>(scope: Scope, target: &'a str, before: &Past<'a>) -> Option<Target<'a>>
+pub(crate) fn scoped_target<'a>(
+    scope: Scope,
+    target: &'a str,
+    before: &Past<'a>,
+) -> Option<Target<'a>>
     ensures { result ≡ Surveys.scoped_target scope target.now before.now }
 {
     match scope {

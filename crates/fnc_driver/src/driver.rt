@@ -1,0 +1,185 @@
+// The driver: it tells a core the inputs of a session, and after each starts what may start.
+
+ghost use Rattle.std.specs.Prelude.{◌≡◌, ◌≤◌, true, IfSome, length};
+ghost use Rattle.std.specs.Bool.{OnTrue};
+ghost use Rattle.std.specs.List.{AllByRecursion};
+ghost use Rattle.fnc_journal.specs.Lawful.{in_order};
+ghost use Rattle.fnc_core.specs.Between.{IsBoundedEvent};
+ghost use Rattle.fnc_core.specs.Cored.{event_of};
+ghost use Rattle.fnc_driver.specs.Askable.{IsAskable};
+
+use crate::plans::Written;
+use crate::steps::Step;
+use fnc_core::{Ask, Change, Core};
+use fnc_journal::{Entry, Event, Plan, Scope};
+use fnc_journal_text::{print_one, read_entry};
+use fnc_judge::{is_in_order, is_plan};
+use fnc_outside::MemorySink;
+use std::alloc::Global;
+use std::process::Abort;
+use std::test::Fail;
+
+/// The greatest moment.
+const LATEST: u64 = 1_000_000_000_000_000;
+
+/// The change that an input makes of what a core knows.
+fn change_of(core: &Core, event: Event) -> Option<Change>
+    requires ordered { in_order event core.now.history ≡ true }
+    requires bounded { IsBoundedEvent event }
+    ensures ordered { IfSome result (λ c. in_order (event_of core.now.history c) core.now.history ≡ true) }
+    ensures bounded { IfSome result (λ c. IsBoundedEvent (event_of core.now.history c)) }
+{
+    match event {
+        Event::Device { registration, .. } => Some(Change::Device(registration)),
+        Event::Gone { reg } => Some(Change::Gone(reg)),
+        Event::Level {
+            target,
+            index,
+            devices,
+        } => Some(Change::Level {
+            target,
+            index,
+            devices,
+        }),
+        Event::LevelGone { target, index } => Some(Change::LevelGone { target, index }),
+        Event::Agent { name, description } => Some(Change::Agent { name, description }),
+        Event::Confirm { client, target } => Some(Change::Confirm { client, target }),
+        _ => None,
+    }
+}
+
+/// Tells the core an input that is no request.
+fn enter(rt: &impl Abort, core: &mut Core, entry: Entry)
+    requires { IsBoundedEvent entry.event }
+{
+    let moment = entry.moment;
+    assert!(rt; core.last() <= moment);
+    assert!(rt; moment <= LATEST);
+    assert!(rt; is_in_order(&entry.event, core.journal()));
+    let entered = match entry.event {
+        Event::Pass => core.pass(moment).is_ok(),
+        Event::Refused { line, cause } => core.refuse(moment, line, cause).is_ok(),
+        Event::Exit { run, exit, listed } => core.exit(moment, run, exit, listed).is_ok(),
+        event => match change_of(core, event) {
+            Some(change) => core.note(moment, change).is_ok(),
+            None => false,
+        },
+    };
+    assert!(rt; entered);
+}
+
+/// Whether a plan has no more candidates, levels and devices than a plan may have.
+fn is_small(plan: &Plan) -> bool
+    ensures { OnTrue result ((length plan.now.candidates ≤ 128) × (length plan.now.levels ≤ 9) × AllByRecursion (λ l. length l.devices ≤ 8) plan.now.levels) }
+{
+    plan.candidates.as_slice().len() <= 128
+        && plan.levels.as_slice().len() <= 9
+        && plan
+            .levels
+            .as_slice()
+            .iter()
+            .all(|l| l.devices.as_slice().len() <= 8)
+}
+
+/// The request that an input makes of a core, with its scope.
+#[tactic(auto, using(crate::proofs::InPlace::askable))]
+fn request_of(core: &Core, event: Event) -> Option<(Ask, Scope)>
+    requires ordered { in_order event core.now.history ≡ true }
+    ensures { IfSome result (λ r. IsAskable r.0 r.1 core.now.history) }
+{
+    match event {
+        Event::Ask {
+            client,
+            kind,
+            target,
+            total,
+            coin,
+            scope,
+            ..
+        } => {
+            let ask = Ask {
+                client,
+                kind,
+                target,
+                total,
+                coin,
+            };
+            Some((ask, scope))
+        }
+        _ => None,
+    }
+}
+
+/// Asks the core, with a plan.
+fn ask(
+    rt: &impl Abort,
+    alloc: Global,
+    core: &mut Core,
+    entry: Entry,
+    written: &Written,
+) -> Result<(), Fail> {
+    let moment = entry.moment;
+    assert!(rt; core.last() <= moment);
+    assert!(rt; moment <= LATEST);
+    assert!(rt; is_in_order(&entry.event, core.journal()));
+    let (ask, scope) = request_of(core, entry.event).ok_or("no request")?;
+    let plan = written.plan(alloc, scope)?;
+    assert!(rt; is_plan(core.journal(), ask.kind, ask.target.as_str(), moment, &plan));
+    assert!(rt; is_small(&plan));
+    core.ask(alloc, moment, ask, plan)?;
+    Ok(())
+}
+
+/// Starts what may start.
+fn start_all(core: &mut Core) {
+    for _ in 0..u32::MAX {
+        if core.next_start().is_none() {
+            return;
+        }
+    }
+}
+
+/// Tells the core a step, where that is a call, and starts what may start then.
+#[tactic(auto, using(crate::proofs::Bounded::bounded_when_read))]
+fn tell(rt: &impl Abort, alloc: Global, core: &mut Core, step: &Step) -> Result<(), Fail> {
+    let line = step.line(alloc)?;
+    match step {
+        Step::Then(_) => return Ok(()),
+        Step::Ask(_, written) => {
+            ask(
+                rt,
+                alloc,
+                core,
+                read_entry(alloc, line.as_slice())?,
+                written,
+            )?;
+        }
+        _ => enter(rt, core, read_entry(alloc, line.as_slice())?),
+    }
+    start_all(core);
+    Ok(())
+}
+
+/// Whether an entry is that of a step.
+fn is_entry_of(alloc: Global, step: &Step, entry: &Entry) -> Result<bool, Fail> {
+    let mut sink = MemorySink::new(alloc, 1_024, &[])?;
+    print_one(entry, &mut sink)?;
+    let line = step.line(alloc)?;
+    Ok(sink.bytes().strip_suffix(b"\n") == Some(line.as_slice()))
+}
+
+/// A session leaves the journal that is written down.
+pub(crate) fn leaves(rt: &impl Abort, alloc: Global, steps: &[Step]) -> Result<(), Fail> {
+    let mut core = Core::with_limit(alloc, 16_384)?;
+    for step in steps {
+        tell(rt, alloc, &mut core, step)?;
+    }
+    let journal = core.journal();
+    for index in 0..journal.len() {
+        let step = steps.get(index as usize).ok_or("more entries than steps")?;
+        let same = is_entry_of(alloc, step, journal.entry(index))?;
+        assert!(rt; same, "entry {index} is not {}", step.front());
+    }
+    assert_eq!(rt; journal.len() as usize, steps.len());
+    Ok(())
+}
