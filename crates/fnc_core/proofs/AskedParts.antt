@@ -1,7 +1,7 @@
 -- The parts after a request, where the records stand for the journal with it and the queue holds what is then wanted.
 use Rattle.std.proofs.Common.{ℕ, List, ◌∷◌, Bool, true, false, ◌≡◌, ◌≤◌, ◌+◌, ◌==◌, ◌||◌, refl, ap, sym, ◌∙◌, subst, arith, length, eq-eqb, eqb-true, ne_eqb, max, cond, ◌*◌, Option, Some, None}
 use Rattle.std.specs.Prelude.{option_map, unwrap_or}
-use Rattle.fnc_journal.specs.declared.entry.Event.{Event}
+use Rattle.fnc_journal.specs.declared.event.Event.{Event}
 use Rattle.fnc_journal.specs.declared.entry.Kind.{Kind}
 use Rattle.fnc_journal.specs.declared.entry.Req.{Req}
 use Rattle.fnc_journal.specs.declared.entry.Scope.{Scope}
@@ -30,12 +30,12 @@ use Rattle.fnc_core.proofs.OwedAsks.{joined-open, owed-joined, owed-begun}
 use Rattle.fnc_core.proofs.Resting.{lawful-entered}
 
 -- a request in order has the next number
-pub ordered-next : (req lead : Req) (client : List ℕ) (kind : Kind) (target : List ℕ) (total coin : ℕ) (scope : Scope) (h : History) → in_order (Event.Ask req lead client kind target total coin scope) h ≡ true → req.0 ≡ asks h
+pub ordered-next : (req lead : Req) (client : List ℕ) (kind : Kind) (target : List ℕ) (total coin : ℕ) (scope : Scope) (h : History) → in_order (Event.Ask (record { req = req; lead = lead; client = client; kind = kind; target = target; total = total; coin = coin; scope = scope })) h ≡ true → req.0 ≡ asks h
 ordered-next req lead client kind target total coin scope h i = eqb-true req.0 (asks h) (and-left _ _ (and-left _ _ (and-left _ _ (and-left _ _ i))))
 
 module _ (m : ℕ) (req lead : Req) (client : List ℕ) (kind : Kind) (target : List ℕ) (total coin : ℕ) (scope : Scope) (p : Parted) (rests : Rests m p) where
   abbrev event : Event
-  event = Event.Ask req lead client kind target total coin scope
+  event = Event.Ask (record { req = req; lead = lead; client = client; kind = kind; target = target; total = total; coin = coin; scope = scope })
 
   abbrev after : History
   after = entry m event ∷ p.history
@@ -86,7 +86,7 @@ one-most req items = go (is_waiting req items)
 -- an operation that begins has its item in a queue that had room for what is owed with it
 module _ (r : Request) (plan : Plan) (client : List ℕ) (p : Parted) (rests : Rests r.moment p) where
   abbrev event_begun : Event
-  event_begun = Event.Ask r.req r.req client r.kind r.target r.total r.coin plan.scope
+  event_begun = Event.Ask (record { req = r.req; lead = r.req; client = client; kind = r.kind; target = r.target; total = r.total; coin = r.coin; scope = plan.scope })
 
   abbrev after_begun : History
   after_begun = entry r.moment event_begun ∷ p.history

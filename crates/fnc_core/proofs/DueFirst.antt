@@ -4,7 +4,7 @@ use Rattle.std.proofs.Common.{ℕ, List, [], ◌∷◌, Bool, true, false, ◌�
 use Rattle.std.specs.Prelude.{find, filter, option_map, option_and_then}
 use Rattle.std.specs.List.{AllByRecursion, list_any}
 use Rattle.fnc_journal.specs.declared.entry.Answer.{Answer}
-use Rattle.fnc_journal.specs.declared.entry.Event.{Event}
+use Rattle.fnc_journal.specs.declared.event.Event.{Event}
 use Rattle.fnc_journal.specs.declared.entry.Req.{Req}
 use Rattle.fnc_journal.specs.History.{History}
 use Rattle.fnc_journal.specs.Missing.{first_of, has_any}
@@ -100,7 +100,7 @@ some-same x y e = cc
 
 -- a reply to whom it is due first continues the reply that must be continued
 continues-due : (h : History) (m r : ℕ) (o : Operation) (answer : Answer) (x : Option Pending) → MayContinue h m x → first_due h m ≡ Some o → due_to h m o ≡ Some answer → IsLed h o.req r →
-    continues x m (Event.Reply (record { 0 = r }) answer) h ≡ true
+    continues x m (Event.Reply (record { req = record { 0 = r }; answer = answer })) h ≡ true
 continues-due h m r o answer None c f d l = refl
 continues-due h m r o answer (Some p) c f d l =
     let operation : p.operation ≡ o.req = some-same p.operation o.req (sym c.operation ∙ ap (option_map (λ (o : Operation). o.req)) f) in

@@ -2,7 +2,7 @@
 -- for another try.
 use Rattle.std.proofs.Common.{ℕ, ◌∷◌, Bool, true, false, ◌≡◌, ◌≤◌, ◌<◌, ◌+◌, ◌-◌, ◌==◌, ◌||◌, refl, ap, sym, ◌∙◌, subst, cond, arith, length, eq-eqb, eqb-true, ne_eqb, false-eqb, is_some, not}
 use Rattle.std.specs.Prelude.{Some, option_map}
-use Rattle.fnc_journal.specs.declared.entry.Event.{Event}
+use Rattle.fnc_journal.specs.declared.event.Event.{Event}
 use Rattle.fnc_journal.specs.declared.entry.Exit.{Exit}
 use Rattle.fnc_journal.specs.declared.entry.Run.{Run}
 use Rattle.fnc_journal.specs.History.{History}
@@ -37,7 +37,7 @@ cancel false x a c e f = omega (arith, e, f)
 
 module _ (m : ℕ) (p : Parted) (rests : Rests m p) (run : Run) (exit : Exit) (listed : Bool) (lives : is_alive run.0 p.history ≡ true) (s : Started) (was : started run.0 p.history ≡ Some s) where
   abbrev after : History
-  after = entry m (Event.Exit run exit listed) ∷ p.history
+  after = entry m (Event.Exit (record { run = run; exit = exit; listed = listed })) ∷ p.history
 
   -- its lane has a run
   pub lane-runs : 0 < lane_count (lane s.reg p.history) p.queue.alive
@@ -59,7 +59,7 @@ module _ (m : ℕ) (p : Parted) (rests : Rests m p) (run : Run) (exit : Exit) (l
       omega (arith, owes, room)
 
   lawful-ended : Lawful after
-  lawful-ended = lawful-entered m p rests (Event.Exit run exit listed) refl (and-left (is_some (started run.0 p.history)) (not (has_exit run.0 p.history)) lives) lives refl
+  lawful-ended = lawful-entered m p rests (Event.Exit (record { run = run; exit = exit; listed = listed })) refl (and-left (is_some (started run.0 p.history)) (not (has_exit run.0 p.history)) lives) lives refl
 
   -- the others wait for what they waited for, and its operation has the item that it wants
   waits-ended : (v : Kept) (u q : Queued) → OthersWait s.req p.ops v → u ≡ ended (lane s.reg p.history) p.queue → Changes s.req (wanted after s.req v) u.waiting q.waiting → Waits after v q
@@ -96,7 +96,7 @@ module _ (m : ℕ) (p : Parted) (rests : Rests m p) (run : Run) (exit : Exit) (l
       now
 
   -- the parts with the exit
-  pub between-ended : (u : Queued) (q : Parted) → Adds m (Event.Exit run exit listed) p q → u ≡ ended (lane s.reg p.history) p.queue → CountsOneMore (lane s.reg p.history) u.alive p.queue.alive →
+  pub between-ended : (u : Queued) (q : Parted) → Adds m (Event.Exit (record { run = run; exit = exit; listed = listed })) p q → u ≡ ended (lane s.reg p.history) p.queue → CountsOneMore (lane s.reg p.history) u.alive p.queue.alive →
       Changes s.req (wanted q.history s.req q.ops) u.waiting q.queue.waiting → q.queue.alive ≡ u.alive →
       q.queue.spare + one_if_held s.req q.queue.waiting ≡ u.spare + one_if_held s.req u.waiting →
       StandsFor q.ops after → AreAt m q.ops.operations → OthersWait s.req p.ops q.ops → Between m q
@@ -113,7 +113,7 @@ module _ (m : ℕ) (p : Parted) (rests : Rests m p) (run : Run) (exit : Exit) (l
         small = let limit : q.limit ≡ p.limit = a.limit in let small : p.limit ≤ 1_048_576 = rests.between.small in omega (arith, limit, small);
         came = omega arith;
         early = rests.between.early;
-        bounded = bounded-push m (Event.Exit run exit listed) p.history rests.between.bounded tt;
+        bounded = bounded-push m (Event.Exit (record { run = run; exit = exit; listed = listed })) p.history rests.between.bounded tt;
         stands = z;
         at = at;
         waits = waits-ended q.ops u q.queue others e changed;

@@ -2,7 +2,7 @@
 use Rattle.std.proofs.Common.{ℕ, ◌∷◌, Bool, true, false, ◌≡◌, ◌≤◌, ◌+◌, ◌==◌, ◌||◌, refl, ap, ap₂, sym, ◌∙◌, subst, Option, Some, None, cond, arith, length, eq-eqb, is_some}
 use Rattle.std.specs.Prelude.{option_map}
 use Rattle.fnc_journal.specs.declared.definition.Registration.{Registration}
-use Rattle.fnc_journal.specs.declared.entry.Event.{Event}
+use Rattle.fnc_journal.specs.declared.event.Event.{Event}
 use Rattle.fnc_journal.specs.Bounds.{IsBounded}
 use Rattle.fnc_journal.specs.History.{History}
 use Rattle.fnc_journal.specs.Missing.{or_here}
@@ -33,34 +33,34 @@ some_registration : (q r : Registration) → ◌≡◌ {A = Option Registration}
 some_registration q r e = cc
 
 pub bounded-push : (m : ℕ) (event : Event) (h : History) → AreBounded h → IsBoundedEvent event → AreBounded (entry m event ∷ h)
-bounded-push m (Event.Device reg d) h b k n r e = go (registration n h) refl (n == reg.0) e
+bounded-push m (Event.Device device) h b k n r e = go (registration n h) refl (n == device.reg.0) e
   where
-    go : (x : Option Registration) → registration n h ≡ x → (c : Bool) → or_here x (cond c (Some d) None) ≡ Some r → IsBounded r.definition
-    go None f true g = subst (λ (x : Registration). IsBounded x.definition) (some_registration d r g) k
+    go : (x : Option Registration) → registration n h ≡ x → (c : Bool) → or_here x (cond c (Some device.registration) None) ≡ Some r → IsBounded r.definition
+    go None f true g = subst (λ (x : Registration). IsBounded x.definition) (some_registration device.registration r g) k
     go None f false g = cc
-    go (Some q) f c g = b n r (f ∙ sym (or_here-some q (cond c (Some d) None)) ∙ g)
+    go (Some q) f c g = b n r (f ∙ sym (or_here-some q (cond c (Some device.registration) None)) ∙ g)
 bounded-push m _ h b k n r e = b n r e
 
 -- an entry that is no start keeps the calm, and one that is no reply asks for no other
 calm-kept : (m : ℕ) (event : Event) (h : History) → is_running event ≡ false → calm_entry (entry m event) h ≡ true
-calm-kept m (Event.Start run req slot reg kind attempt) h q = cc
+calm-kept m (Event.Start start) h q = cc
 calm-kept m _ h q = refl
 
 pending-kept : (m : ℕ) (event : Event) (h : History) → is_waiting event ≡ false → pending (entry m event ∷ h) ≡ None
-pending-kept m (Event.Reply req answer) h q = cc
+pending-kept m (Event.Reply reply) h q = cc
 pending-kept m _ h q = refl
 
 no_exit : (event : Event) (h : History) → is_running event ≡ false → exit_of event h ≡ true
-no_exit (Event.Exit run exit listed) h q = cc
+no_exit (Event.Exit ended) h q = cc
 no_exit _ h q = refl
 
 no_lead : (m : ℕ) (event : Event) (h : History) → is_waiting event ≡ false → leads event m h ≡ true
-no_lead m (Event.Ask req lead client kind target total coin scope) h q = cc
+no_lead m (Event.Ask ask) h q = cc
 no_lead m _ h q = refl
 
 an_input : (event : Event) → is_waiting event ≡ false → is_running event ≡ false → is_input event ≡ true
-an_input (Event.Reply req answer) q r = cc
-an_input (Event.Start run req slot reg kind attempt) q r = cc
+an_input (Event.Reply reply) q r = cc
+an_input (Event.Start start) q r = cc
 an_input _ q r = refl
 
 module _ (m : ℕ) (event : Event) (p : Parted) (rests : Rests m p) (quiet : is_waiting event ≡ false) (still : is_running event ≡ false) (ordered : in_order event p.history ≡ true) where
@@ -128,30 +128,30 @@ module _ (m : ℕ) (event : Event) (p : Parted) (rests : Rests m p) (quiet : is_
 
 -- an entry that touches no operation changes nothing of what is due
 pub settled-quiet : (m n : ℕ) (event : Event) (h : History) → is_quiet event ≡ true → settled (entry m event ∷ h) n ≡ settled h n
-settled-quiet m n (Event.Ask req lead client kind target total coin scope) h q = cc
-settled-quiet m n (Event.Exit run exit listed) h q = cc
-settled-quiet m n (Event.Confirm client target) h q = cc
-settled-quiet m n (Event.Start run req slot reg kind attempt) h q = cc
-settled-quiet m n (Event.Reply req answer) h q = cc
+settled-quiet m n (Event.Ask ask) h q = cc
+settled-quiet m n (Event.Exit ended) h q = cc
+settled-quiet m n (Event.Confirm confirmation) h q = cc
+settled-quiet m n (Event.Start start) h q = cc
+settled-quiet m n (Event.Reply reply) h q = cc
 settled-quiet m n _ h q = refl
 
 -- it is neither request nor reply, neither start nor exit, and the records say nothing of it
 quiet-waiting : (event : Event) → is_quiet event ≡ true → is_waiting event ≡ false
-quiet-waiting (Event.Ask req lead client kind target total coin scope) q = cc
-quiet-waiting (Event.Reply req answer) q = cc
+quiet-waiting (Event.Ask ask) q = cc
+quiet-waiting (Event.Reply reply) q = cc
 quiet-waiting _ q = refl
 
 quiet-running : (event : Event) → is_quiet event ≡ true → is_running event ≡ false
-quiet-running (Event.Start run req slot reg kind attempt) q = cc
-quiet-running (Event.Exit run exit listed) q = cc
+quiet-running (Event.Start start) q = cc
+quiet-running (Event.Exit ended) q = cc
 quiet-running _ q = refl
 
 quiet-untold : (event : Event) → is_quiet event ≡ true → is_untold event ≡ true
-quiet-untold (Event.Ask req lead client kind target total coin scope) q = cc
-quiet-untold (Event.Exit run exit listed) q = cc
-quiet-untold (Event.Confirm client target) q = cc
-quiet-untold (Event.Start run req slot reg kind attempt) q = cc
-quiet-untold (Event.Reply req answer) q = cc
+quiet-untold (Event.Ask ask) q = cc
+quiet-untold (Event.Exit ended) q = cc
+quiet-untold (Event.Confirm confirmation) q = cc
+quiet-untold (Event.Start start) q = cc
+quiet-untold (Event.Reply reply) q = cc
 quiet-untold _ q = refl
 
 -- the parts after it

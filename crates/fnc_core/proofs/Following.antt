@@ -1,7 +1,7 @@
 -- An input that enters after an advance, and a request that is taken or not.
 use Rattle.std.proofs.Common.{ℕ, ◌∷◌, ◌++◌, ◌≡◌, refl, ap, ap₂, sym, ◌∙◌, subst, Option, Some, None, Result, Ok, Err}
 use Rattle.std.specs.Prelude.{option_map, unwrap_or, OnErr, IfErr}
-use Rattle.fnc_journal.specs.declared.entry.Event.{Event}
+use Rattle.fnc_journal.specs.declared.event.Event.{Event}
 use Rattle.fnc_journal.specs.declared.entry.Req.{Req}
 use Rattle.fnc_journal.specs.declared.plan.Plan.{Plan}
 use Rattle.fnc_journal.specs.History.{History}
@@ -38,7 +38,7 @@ follows-asks old mid new m k p a f = record {
 
 -- a device's number is all that a change takes from the journal
 pub same-event : (g h : History) (change : Change) → devices g ≡ devices h → event_of g change ≡ event_of h change
-same-event g h (Change.Device registration) e = ap (λ n. Event.Device (record { 0 = n }) registration) e
+same-event g h (Change.Device registration) e = ap (λ n. Event.Device (record { reg = record { 0 = n }; registration = registration })) e
 same-event g h (Change.Gone reg) e = refl
 same-event g h (Change.Level target index names) e = refl
 same-event g h (Change.LevelGone target index) e = refl

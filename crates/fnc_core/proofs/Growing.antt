@@ -4,7 +4,7 @@ use Rattle.std.specs.Prelude.{not}
 use Rattle.std.specs.List.{AllByRecursion}
 use Rattle.std.proofs.lemmas.List.Elements.{filter-append}
 use Rattle.fnc_journal.specs.declared.entry.Entry.{Entry}
-use Rattle.fnc_journal.specs.declared.entry.Event.{Event}
+use Rattle.fnc_journal.specs.declared.event.Event.{Event}
 use Rattle.fnc_journal.specs.History.{History}
 use Rattle.fnc_journal.specs.Found.{is_reply}
 use Rattle.fnc_journal.specs.Served.{AreReplies}
@@ -69,7 +69,7 @@ module _ (old new : Cored) where
   grows-began s x =
       let last : new.last ≡ old.last = x.last in
       record {
-        more = entry old.last (Event.Start s.run s.req s.slot s.reg s.kind s.attempt) ∷ [];
+        more = entry old.last (Event.Start (record { run = s.run; req = s.req; slot = s.slot; reg = s.reg; kind = s.kind; attempt = s.attempt })) ∷ [];
         history = x.history;
         came = ((omega arith, omega (arith, last)), tt);
         later = omega (arith, last);

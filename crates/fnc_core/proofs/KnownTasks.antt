@@ -6,7 +6,7 @@ use Rattle.std.specs.Option.{option_or}
 use Rattle.fnc_journal.specs.declared.definition.Definition.{Definition}
 use Rattle.fnc_journal.specs.declared.definition.Registration.{Registration}
 use Rattle.fnc_journal.specs.declared.entry.Entry.{Entry}
-use Rattle.fnc_journal.specs.declared.entry.Event.{Event}
+use Rattle.fnc_journal.specs.declared.event.Event.{Event}
 use Rattle.fnc_journal.specs.declared.entry.Kind.{Kind}
 use Rattle.fnc_journal.specs.declared.entry.Phase.{Phase}
 use Rattle.fnc_journal.specs.declared.entry.Reg.{Reg}
@@ -51,10 +51,10 @@ some_asked : (a b : Asked) → ◌≡◌ {A = Option Asked} (Some a) (Some b) �
 some_asked a b e = cc
 
 asked_here-before : (r m : ℕ) (before : History) (event : Event) (a : Asked) → or_here None (asked_here r m before event) ≡ Some a → before ≡ a.before
-asked_here-before r m before (Event.Ask req lead client kind target total coin scope) a e = go (r == req.0) e
+asked_here-before r m before (Event.Ask ask) a e = go (r == ask.req.0) e
   where
     said : Asked
-    said = record { moment = m; lead = lead.0; kind = kind; target = target; total = total; coin = coin; scope = scope; before = before }
+    said = record { moment = m; lead = ask.lead.0; kind = ask.kind; target = ask.target; total = ask.total; coin = ask.coin; scope = ask.scope; before = before }
 
     go : (b : Bool) → or_here None (cond b (Some said) None) ≡ Some a → before ≡ a.before
     go true f = ap (λ (x : Asked). x.before) (some_asked said a f)

@@ -2,7 +2,7 @@
 use Rattle.std.proofs.Common.{ℕ, List, [], ◌∷◌, ◌++◌, Bool, true, false, ◌≡◌, ◌+◌, refl, ap, sym, ◌∙◌, Option, Some, None, IsTrue, cond, not, is_some, arith, length, ◌==◌, eqb-true}
 use Rattle.std.specs.Prelude.{filter, find, option_map}
 use Rattle.std.specs.List.{AllByRecursion}
-use Rattle.fnc_journal.specs.declared.entry.Event.{Event}
+use Rattle.fnc_journal.specs.declared.event.Event.{Event}
 use Rattle.fnc_journal.specs.declared.entry.Exit.{Exit}
 use Rattle.fnc_journal.specs.declared.entry.Run.{Run}
 use Rattle.fnc_journal.specs.History.{History}
@@ -34,9 +34,9 @@ begun-known (e ∷ before) l =
   where
     go : (event : Event) → IsTrue (in_order event before) → AllByRecursion (IsKnownRun (at e.moment event ∷ before)) (begun_runs before) →
         AllByRecursion (IsKnownRun (at e.moment event ∷ before)) (append_some (begun_runs before) (begun_here event))
-    go (Event.Start run req slot reg kind attempt) i a =
-        each-append (IsKnownRun (at e.moment (Event.Start run req slot reg kind attempt) ∷ before)) (begun_runs before) (record { run = run.0; reg = reg.0 }) a
-        (known-push e.moment (Event.Start run req slot reg kind attempt) before (record { run = run.0; reg = reg.0 }) (and-right _ _ i))
+    go (Event.Start start) i a =
+        each-append (IsKnownRun (at e.moment (Event.Start start) ∷ before)) (begun_runs before) (record { run = start.run.0; reg = start.reg.0 }) a
+        (known-push e.moment (Event.Start start) before (record { run = start.run.0; reg = start.reg.0 }) (and-right _ _ i))
     go _ i a = a
 
 pub alive-known : (h : History) → Lawful h → AllByRecursion (IsKnownRun h) (alive_runs h)
@@ -85,10 +85,10 @@ begun-started n (e ∷ before) = go e.event (begun-started n before)
 
     go : (event : Event) → find (λ (b : Begun). n == b.run) (begun_runs before) ≡ begun_of n (started n before) →
         find (λ (b : Begun). n == b.run) (append_some (begun_runs before) (begun_here event)) ≡ begun_of n (or_here (started n before) (started_here n event))
-    go (Event.Start run req slot reg kind attempt) ih =
-        find-append (λ (b : Begun). n == b.run) (begun_runs before) (record { run = run.0; reg = reg.0 })
-        ∙ ap (λ x. or_here x (cond (n == run.0) (Some (record { run = run.0; reg = reg.0 })) None)) ih
-        ∙ both (started n before) (record { req = req.0; slot = slot; reg = reg.0; kind = kind }) run.0 (n == run.0) refl
+    go (Event.Start start) ih =
+        find-append (λ (b : Begun). n == b.run) (begun_runs before) (record { run = start.run.0; reg = start.reg.0 })
+        ∙ ap (λ x. or_here x (cond (n == start.run.0) (Some (record { run = start.run.0; reg = start.reg.0 })) None)) ih
+        ∙ both (started n before) (record { req = start.req.0; slot = start.slot; reg = start.reg.0; kind = start.kind }) start.run.0 (n == start.run.0) refl
     go _ ih = ih
 
 -- a test that the run of a number passes leaves it where it is

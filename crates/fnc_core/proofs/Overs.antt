@@ -2,7 +2,7 @@
 use Rattle.std.proofs.Common.{ℕ, [], ◌∷◌, Bool, true, false, ◌≡◌, ◌≤◌, ◌+◌, ◌==◌, ◌&&◌, refl, ap, ◌∙◌, Option, Some, None, IsTrue, cond, arith, eqb-true}
 use Rattle.std.proofs.lemmas.Bool.{leb-true}
 use Rattle.std.specs.Prelude.{find, option_map, option_and_then, unwrap_or, nat_le}
-use Rattle.fnc_journal.specs.declared.entry.Event.{Event}
+use Rattle.fnc_journal.specs.declared.event.Event.{Event}
 use Rattle.fnc_journal.specs.History.{History}
 use Rattle.fnc_journal.specs.Missing.{or_here}
 use Rattle.fnc_journal.specs.Found.{Asked, asked, asked_here, asks, is_ask_of}
@@ -35,26 +35,26 @@ newest-over (e ∷ before) l r = go e.event (in_order-of e.moment e.event before
     go : (event : Event) → IsTrue (in_order event before) → over_in (find (λ e. is_ask_of r e.event) before) ≡ over_for (asked r before) →
         over_in (cond (is_ask_of r event) (Some (record { moment = e.moment; event = event })) (find (λ e. is_ask_of r e.event) before))
         ≡ over_for (or_here (asked r before) (asked_here r e.moment before event))
-    go (Event.Ask req lead client kind target total coin scope) i ih = ask (r == req.0) refl
+    go (Event.Ask ask_) i ih = ask (r == ask_.req.0) refl
       where
         said : Asked
-        said = record { moment = e.moment; lead = lead.0; kind = kind; target = target; total = total; coin = coin; scope = scope; before = before }
+        said = record { moment = e.moment; lead = ask_.lead.0; kind = ask_.kind; target = ask_.target; total = ask_.total; coin = ask_.coin; scope = ask_.scope; before = before }
 
-        new : req.0 ≡ asks before
-        new = eqb-true req.0 (asks before) (and-left _ _ (and-left _ _ (and-left _ _ (and-left _ _ i))))
+        new : ask_.req.0 ≡ asks before
+        new = eqb-true ask_.req.0 (asks before) (and-left _ _ (and-left _ _ (and-left _ _ (and-left _ _ i))))
 
-        short : total ≤ 86_400_000
-        short = leb-true total 86_400_000 (fourth (req.0 == asks before) (may_ask kind) (nat_le 1 total) (nat_le total 86_400_000) (is_in_place scope target before) i)
+        short : ask_.total ≤ 86_400_000
+        short = leb-true ask_.total 86_400_000 (fourth (ask_.req.0 == asks before) (may_ask ask_.kind) (nat_le 1 ask_.total) (nat_le ask_.total 86_400_000) (is_in_place ask_.scope ask_.target before) i)
 
-        first : (x : Option Asked) → x ≡ None → capped 64 (e.moment + total) ≡ over_for (or_here x (Some said))
-        first None p = fits e.moment total early short
+        first : (x : Option Asked) → x ≡ None → capped 64 (e.moment + ask_.total) ≡ over_for (or_here x (Some said))
+        first None p = fits e.moment ask_.total early short
         first (Some a) p = cc
 
-        ask : (b : Bool) → (r == req.0) ≡ b →
-            over_in (cond b (Some (record { moment = e.moment; event = Event.Ask req lead client kind target total coin scope })) (find (λ e. is_ask_of r e.event) before))
+        ask : (b : Bool) → (r == ask_.req.0) ≡ b →
+            over_in (cond b (Some (record { moment = e.moment; event = Event.Ask ask_ })) (find (λ e. is_ask_of r e.event) before))
             ≡ over_for (or_here (asked r before) (cond b (Some said) None))
         ask true k =
-            let same : r ≡ req.0 = eqb-true r req.0 k in
+            let same : r ≡ ask_.req.0 = eqb-true r ask_.req.0 k in
             first (asked r before) (fresh_ask before l.1 r (omega (arith, same, new)))
         ask false k = ih
     go _ i ih = ih

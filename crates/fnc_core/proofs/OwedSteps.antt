@@ -2,7 +2,7 @@
 use Rattle.std.proofs.Common.{ℕ, List, [], ◌∷◌, Bool, true, false, ◌≡◌, ◌<◌, ◌+◌, ◌-◌, ◌*◌, ◌==◌, refl, ap, ap₂, ◌∙◌, Option, Some, None, arith, length}
 use Rattle.std.specs.Prelude.{option_map}
 use Rattle.std.specs.List.{list_any}
-use Rattle.fnc_journal.specs.declared.entry.Event.{Event}
+use Rattle.fnc_journal.specs.declared.event.Event.{Event}
 use Rattle.fnc_journal.specs.declared.entry.Exit.{Exit}
 use Rattle.fnc_journal.specs.declared.entry.Run.{Run}
 use Rattle.fnc_journal.specs.declared.entry.Slot.{Slot}
@@ -30,10 +30,10 @@ owed-frame m event h q r =
     (ap (owed_by_all (at m event ∷ h)) (open_operations-frame m event h q) ∙ owed_by_all-same (at m event ∷ h) h (each event q r) (open_operations h))
   where
     each : (event : Event) → is_waiting event ≡ false → is_running event ≡ false → (o : Operation) → owed_by (at m event ∷ h) o ≡ owed_by h o
-    each (Event.Ask req lead client kind target total coin scope) q r o = cc
-    each (Event.Reply req answer) q r o = cc
-    each (Event.Start run req slot reg kind attempt) q r o = cc
-    each (Event.Exit run exit listed) q r o = cc
+    each (Event.Ask ask) q r o = cc
+    each (Event.Reply reply) q r o = cc
+    each (Event.Start start) q r o = cc
+    each (Event.Exit ended) q r o = cc
     each _ q r o = refl
 
 -- an exit starts nothing

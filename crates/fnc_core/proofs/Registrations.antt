@@ -2,7 +2,7 @@
 use Rattle.std.proofs.Common.{ℕ, List, [], ◌∷◌, Bool, true, false, ◌≡◌, ◌<◌, ◌+◌, refl, ap, sym, ◌∙◌, Option, Some, None, IsTrue, arith, ◌==◌, cond, eqb-true, is_some, min, rules}
 use Rattle.std.specs.Prelude.{bytes_eq, option_and_then, unwrap_or}
 use Rattle.fnc_journal.specs.declared.definition.Registration.{Registration}
-use Rattle.fnc_journal.specs.declared.entry.Event.{Event}
+use Rattle.fnc_journal.specs.declared.event.Event.{Event}
 use Rattle.fnc_journal.specs.History.{History}
 use Rattle.fnc_journal.specs.Missing.{or_here, least_of}
 use Rattle.fnc_journal.specs.Found.{devices, registration, registration_here}
@@ -32,10 +32,10 @@ least-below (e ∷ before) l name = go e.event (in_order-of e.moment e.event bef
 
     go : (event : Event) → IsTrue (in_order event before) → IsBelow (devices before) (least_registration name before) →
         IsBelow (devices (at e.moment event ∷ before)) (least_of (named_here name event) (least_registration name before))
-    go (Event.Device reg r) i k = named (bytes_eq name r.name)
+    go (Event.Device device) i k = named (bytes_eq name device.registration.name)
       where
-        named : (b : Bool) → IsBelow (devices before + 1) (least_of (cond b (Some reg.0) None) (least_registration name before))
-        named true = lesser reg.0 (eqb-true reg.0 (devices before) i) (least_registration name before) k
+        named : (b : Bool) → IsBelow (devices before + 1) (least_of (cond b (Some device.reg.0) None) (least_registration name before))
+        named true = lesser device.reg.0 (eqb-true device.reg.0 (devices before) i) (least_registration name before) k
         named false = below-more (devices before) (least_registration name before) k
     go _ i k = k
 
@@ -71,12 +71,12 @@ least-there (e ∷ before) n r f = go e.event f (λ k. least-there before n r k)
 
     go : (event : Event) → or_here (registration n before) (registration_here n event) ≡ Some r → (registration n before ≡ Some r → is_some (least_registration r.name before) ≡ true) →
         is_some (least_of (named_here r.name event) (least_registration r.name before)) ≡ true
-    go (Event.Device reg q) g ih = earlier (Event.Device reg q) (registration n before) refl g ih (this (n == reg.0))
+    go (Event.Device device) g ih = earlier (Event.Device device) (registration n before) refl g ih (this (n == device.reg.0))
       where
-        this : (b : Bool) → cond b (Some q) None ≡ Some r → is_some (least_of (cond (bytes_eq r.name q.name) (Some reg.0) None) (least_registration r.name before)) ≡ true
+        this : (b : Bool) → cond b (Some device.registration) None ≡ Some r → is_some (least_of (cond (bytes_eq r.name device.registration.name) (Some device.reg.0) None) (least_registration r.name before)) ≡ true
         this true j =
-            let same : bytes_eq r.name q.name ≡ true = ap (λ (x : Registration). bytes_eq x.name q.name) (some_registration q r j) ∙ same_text q.name in
-            rw same (least_here reg.0 (least_registration r.name before))
+            let same : bytes_eq r.name device.registration.name ≡ true = ap (λ (x : Registration). bytes_eq x.name device.registration.name) (some_registration device.registration r j) ∙ same_text device.registration.name in
+            rw same (least_here device.reg.0 (least_registration r.name before))
         this false j = cc
     go _ g ih = ih g
 
@@ -95,14 +95,14 @@ cap-push n m event h e = ap (option_and_then (λ (r : Registration). r.definitio
 -- a later registration is no lesser one of its name
 least-push : (m : ℕ) (event : Event) (h : History) → Lawful h → in_order event h ≡ true → (name : List ℕ) → is_some (least_registration name h) ≡ true →
     least_registration name (at m event ∷ h) ≡ least_registration name h
-least-push m (Event.Device reg r) h l o name e = go (bytes_eq name r.name) (least_registration name h) (least-below h l name) e
+least-push m (Event.Device device) h l o name e = go (bytes_eq name device.registration.name) (least_registration name h) (least-below h l name) e
   where
-    next : reg.0 ≡ devices h
-    next = eqb-true reg.0 (devices h) o
+    next : device.reg.0 ≡ devices h
+    next = eqb-true device.reg.0 (devices h) o
 
-    go : (b : Bool) (x : Option ℕ) → IsBelow (devices h) x → is_some x ≡ true → least_of (cond b (Some reg.0) None) x ≡ x
+    go : (b : Bool) (x : Option ℕ) → IsBelow (devices h) x → is_some x ≡ true → least_of (cond b (Some device.reg.0) None) x ≡ x
     go b None k f = cc
-    go true (Some x) k f = let least : min reg.0 x ≡ x = omega (arith, next, k) in ap Some least
+    go true (Some x) k f = let least : min device.reg.0 x ≡ x = omega (arith, next, k) in ap Some least
     go false (Some x) k f = refl
 least-push m _ h l o name e = refl
 

@@ -4,7 +4,7 @@ use Rattle.std.specs.Prelude.{option_and_then, option_map}
 use Rattle.std.specs.List.{cons_option}
 use Rattle.fnc_journal.specs.declared.entry.Answer.{Answer}
 use Rattle.fnc_journal.specs.declared.entry.Entry.{Entry}
-use Rattle.fnc_journal.specs.declared.entry.Event.{Event}
+use Rattle.fnc_journal.specs.declared.event.Event.{Event}
 use Rattle.fnc_journal.specs.declared.entry.Kind.{Kind}
 use Rattle.fnc_journal.specs.declared.entry.LevelTarget.{LevelTarget}
 use Rattle.fnc_journal.specs.declared.entry.Req.{Req}
@@ -33,18 +33,18 @@ replied f k m [] h a = refl
 replied f k m (e ∷ rs) h a = go e.event a.0.0 (replied f k m rs h a.1)
   where
     go : (event : Event) → is_reply event ≡ true → f (rs ++ h) ≡ f h → f (record { moment = e.moment; event = event } ∷ (rs ++ h)) ≡ f h
-    go (Event.Reply req answer) r ih = k e.moment req answer (rs ++ h) ∙ ih
-    go (Event.Device reg r) q ih = cc
+    go (Event.Reply reply) r ih = k e.moment reply.req reply.answer (rs ++ h) ∙ ih
+    go (Event.Device device) q ih = cc
     go (Event.Gone reg) q ih = cc
-    go (Event.Level target index names) q ih = cc
-    go (Event.LevelGone target index) q ih = cc
-    go (Event.Agent name description) q ih = cc
-    go (Event.Ask req lead client kind target total coin scope) q ih = cc
-    go (Event.Exit run exit listed) q ih = cc
+    go (Event.Level set) q ih = cc
+    go (Event.LevelGone cleared) q ih = cc
+    go (Event.Agent described) q ih = cc
+    go (Event.Ask ask) q ih = cc
+    go (Event.Exit ended) q ih = cc
     go Event.Pass q ih = cc
-    go (Event.Confirm client target) q ih = cc
-    go (Event.Refused line cause) q ih = cc
-    go (Event.Start run req slot reg kind attempt) q ih = cc
+    go (Event.Confirm confirmation) q ih = cc
+    go (Event.Refused refusal) q ih = cc
+    go (Event.Start start) q ih = cc
 
 -- no entry has a number past the end
 entry-past : (n : ℕ) (h : History) → length h ≤ n → entry_at n h ≡ None
@@ -87,18 +87,18 @@ module _ (m : ℕ) (req : Req) (answer : Answer) (h : History) where
   place-replied (Scope.Pattern n) target = ap (λ (ls : List Level). not (stands (LevelTarget.Name target) h) && is_number (oldest ls) n) (levels-replied n)
 
   order-replied : (event : Event) → in_order event after ≡ in_order event h
-  order-replied (Event.Ask r lead client kind target total coin scope) =
-      ap (λ b. (r.0 == asks h) && may_ask kind && nat_le 1 total && nat_le total 86_400_000 && b) (place-replied scope target)
-  order-replied (Event.Device reg r) = refl
+  order-replied (Event.Ask ask) =
+      ap (λ b. (ask.req.0 == asks h) && may_ask ask.kind && nat_le 1 ask.total && nat_le ask.total 86_400_000 && b) (place-replied ask.scope ask.target)
+  order-replied (Event.Device device) = refl
   order-replied (Event.Gone reg) = refl
-  order-replied (Event.LevelGone target index) = refl
-  order-replied (Event.Exit run exit listed) = refl
-  order-replied (Event.Start run r slot reg kind attempt) = refl
-  order-replied (Event.Reply r a) = refl
+  order-replied (Event.LevelGone cleared) = refl
+  order-replied (Event.Exit ended) = refl
+  order-replied (Event.Start start) = refl
+  order-replied (Event.Reply reply) = refl
   order-replied _ = refl
 
   candidate-replied : (w : Wanted) (event : Event) → candidate_here w after event ≡ candidate_here w h event
-  candidate-replied w (Event.Device reg r) = refl
+  candidate-replied w (Event.Device device) = refl
   candidate-replied w _ = refl
 
   candidates-replied : (w : Wanted) (es : History) → candidates_among w after es ≡ candidates_among w h es

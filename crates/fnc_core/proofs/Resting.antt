@@ -1,6 +1,6 @@
 -- What holds where no answer is due, and when the next input is lawful.
 use Rattle.std.proofs.Common.{ℕ, ◌∷◌, true, ◌≡◌, None}
-use Rattle.fnc_journal.specs.declared.entry.Event.{Event}
+use Rattle.fnc_journal.specs.declared.event.Event.{Event}
 use Rattle.fnc_journal.specs.Found.{is_input}
 use Rattle.fnc_journal.specs.Operations.{settled}
 use Rattle.fnc_journal.specs.Lawful.{Lawful, pending, last_moment, in_order, exit_of, leads}

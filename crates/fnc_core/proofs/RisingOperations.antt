@@ -2,7 +2,7 @@
 use Rattle.std.proofs.Common.{ℕ, List, [], ◌∷◌, ◌++◌, Bool, true, false, ◌≡◌, ◌<◌, ◌==◌, refl, sym, subst, Option, Some, None, IsTrue, cond, arith, eqb-true, eq-eqb, ne_eqb}
 use Rattle.std.specs.Prelude.{find, filter, filter_map}
 use Rattle.std.specs.List.{AllByRecursion}
-use Rattle.fnc_journal.specs.declared.entry.Event.{Event}
+use Rattle.fnc_journal.specs.declared.event.Event.{Event}
 use Rattle.fnc_journal.specs.History.{History}
 use Rattle.fnc_journal.specs.Missing.{append_some}
 use Rattle.fnc_journal.specs.Found.{asks}
@@ -24,13 +24,13 @@ operations-rising [] l = tt
 operations-rising (e ∷ before) l = go e.event (in_order-of e.moment e.event before l.0.ordered) (operations-rising before l.1)
   where
     go : (event : Event) → IsTrue (in_order event before) → Rising (operations before) → Rising (append_some (operations before) (operation_here event))
-    go (Event.Ask req lead client kind target total coin scope) i r = ask (req.0 == lead.0)
+    go (Event.Ask ask_) i r = ask (ask_.req.0 == ask_.lead.0)
       where
-        new : req.0 ≡ asks before
-        new = eqb-true req.0 (asks before) (and-left _ _ (and-left _ _ (and-left _ _ (and-left _ _ i))))
+        new : ask_.req.0 ≡ asks before
+        new = eqb-true ask_.req.0 (asks before) (and-left _ _ (and-left _ _ (and-left _ _ (and-left _ _ i))))
 
-        ask : (b : Bool) → Rising (append_some (operations before) (cond b (Some req.0) None))
-        ask true = rising-end (operations before) req.0 r (subst (λ n. AllByRecursion (λ o. o < n) (operations before)) (sym new) (operations-small before l.1))
+        ask : (b : Bool) → Rising (append_some (operations before) (cond b (Some ask_.req.0) None))
+        ask true = rising-end (operations before) ask_.req.0 r (subst (λ n. AllByRecursion (λ o. o < n) (operations before)) (sym new) (operations-small before l.1))
         ask false = r
     go _ i r = r
 

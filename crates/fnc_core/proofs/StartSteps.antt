@@ -2,7 +2,7 @@
 use Rattle.std.proofs.Common.{ℕ, List, [], ◌∷◌, ◌++◌, Bool, true, false, ◌≡◌, ◌≤◌, ◌+◌, ◌==◌, ◌||◌, refl, ap, ap₂, sym, ◌∙◌, subst, Option, Some, None, cond, arith, length, is_some, eqb-true, eq-eqb, ne_eqb}
 use Rattle.std.specs.Prelude.{find, filter, option_map, option_and_then}
 use Rattle.std.specs.List.{list_any}
-use Rattle.fnc_journal.specs.declared.entry.Event.{Event}
+use Rattle.fnc_journal.specs.declared.event.Event.{Event}
 use Rattle.fnc_journal.specs.declared.entry.Kind.{Kind}
 use Rattle.fnc_journal.specs.declared.entry.Reg.{Reg}
 use Rattle.fnc_journal.specs.declared.entry.Req.{Req}
@@ -71,14 +71,14 @@ held-gone n before after c rs a = go (list_any (is_of n) rs) refl
 
 -- a start in other words
 start-as : (h : History) (m : ℕ) (run : Run) (n k : ℕ) (a b : Slot) (i j : ℕ) (x y : Kind) (c d : ℕ) → n ≡ k → a ≡ b → i ≡ j → x ≡ y → c ≡ d →
-    LawfulEntry (record { moment = m; event = Event.Start run (record { 0 = n }) a (record { 0 = i }) x c }) h →
-    LawfulEntry (record { moment = m; event = Event.Start run (record { 0 = k }) b (record { 0 = j }) y d }) h
+    LawfulEntry (record { moment = m; event = Event.Start (record { run = run; req = record { 0 = n }; slot = a; reg = record { 0 = i }; kind = x; attempt = c }) }) h →
+    LawfulEntry (record { moment = m; event = Event.Start (record { run = run; req = record { 0 = k }; slot = b; reg = record { 0 = j }; kind = y; attempt = d }) }) h
 start-as h m run n k a b i j x y c d p q r s t l =
-    subst (λ (z : ℕ). LawfulEntry (record { moment = m; event = Event.Start run (record { 0 = k }) b (record { 0 = j }) y z }) h) t
-    (subst (λ (z : Kind). LawfulEntry (record { moment = m; event = Event.Start run (record { 0 = k }) b (record { 0 = j }) z c }) h) s
-    (subst (λ (z : ℕ). LawfulEntry (record { moment = m; event = Event.Start run (record { 0 = k }) b (record { 0 = z }) x c }) h) r
-    (subst (λ (z : Slot). LawfulEntry (record { moment = m; event = Event.Start run (record { 0 = k }) z (record { 0 = i }) x c }) h) q
-    (subst (λ (z : ℕ). LawfulEntry (record { moment = m; event = Event.Start run (record { 0 = z }) a (record { 0 = i }) x c }) h) p l))))
+    subst (λ (z : ℕ). LawfulEntry (record { moment = m; event = Event.Start (record { run = run; req = record { 0 = k }; slot = b; reg = record { 0 = j }; kind = y; attempt = z }) }) h) t
+    (subst (λ (z : Kind). LawfulEntry (record { moment = m; event = Event.Start (record { run = run; req = record { 0 = k }; slot = b; reg = record { 0 = j }; kind = z; attempt = c }) }) h) s
+    (subst (λ (z : ℕ). LawfulEntry (record { moment = m; event = Event.Start (record { run = run; req = record { 0 = k }; slot = b; reg = record { 0 = z }; kind = x; attempt = c }) }) h) r
+    (subst (λ (z : Slot). LawfulEntry (record { moment = m; event = Event.Start (record { run = run; req = record { 0 = k }; slot = z; reg = record { 0 = i }; kind = x; attempt = c }) }) h) q
+    (subst (λ (z : ℕ). LawfulEntry (record { moment = m; event = Event.Start (record { run = run; req = record { 0 = z }; slot = a; reg = record { 0 = i }; kind = x; attempt = c }) }) h) p l))))
 
 -- the operation of the first item waits for the try of the first start
 pub awaits-start : (h : History) (m : ℕ) (item : Waiting) (s : Startable) → IsStartOf h m item s → (n : ℕ) → n ≡ s.operation.req → AwaitsTry h m n (try_for s)

@@ -1,7 +1,7 @@
 -- What holds of the core's parts between the entries of one event, and what holds besides once nothing is due.
 use Rattle.std.specs.Prelude.{ℕ, List, [], ◌∷◌, ◌++◌, Bool, true, false, ◌≡◌, ◌==◌, ◌||◌, ◌+◌, ◌*◌, ◌≤◌, ◌^◌, length, Option, Some, None, option_map, option_and_then}
 use Rattle.fnc_journal.specs.declared.entry.Entry.{Entry}
-use Rattle.fnc_journal.specs.declared.entry.Event.{Event}
+use Rattle.fnc_journal.specs.declared.event.Event.{Event}
 use Rattle.fnc_journal.specs.declared.entry.Answer.{Answer}
 use Rattle.fnc_journal.specs.History.{History}
 use Rattle.fnc_journal.specs.Served.{AreReplies}
@@ -80,18 +80,18 @@ RoomFor p need = length p.history + owed p.history + need ≤ p.limit
 
 -- an input that touches no operation: a device, a level, an agent, a pass, a line that is refused
 abbrev pub is_quiet : Event → Bool
-is_quiet (Event.Device reg registration) = true
+is_quiet (Event.Device device) = true
 is_quiet (Event.Gone reg) = true
-is_quiet (Event.Level target index names) = true
-is_quiet (Event.LevelGone target index) = true
-is_quiet (Event.Agent name description) = true
+is_quiet (Event.Level set) = true
+is_quiet (Event.LevelGone cleared) = true
+is_quiet (Event.Agent described) = true
 is_quiet Event.Pass = true
-is_quiet (Event.Refused line cause) = true
+is_quiet (Event.Refused refusal) = true
 is_quiet _ = false
 
 -- a device's definition is within its bounds
 abbrev pub IsBoundedEvent : Event → Type 0
-IsBoundedEvent (Event.Device reg registration) = IsBounded registration.definition
+IsBoundedEvent (Event.Device device) = IsBounded device.registration.definition
 IsBoundedEvent _ = Unit {0}
 
 -- the plan of a target for an action at a moment, of no more than 128 candidates, or 9 levels of 8 devices
@@ -114,7 +114,7 @@ need_of h m req a p = 2 + 2 * tries_of (all_slots (operation_with h m req a p))
 pub record AddsReply (m : ℕ) (old new : Parted) : Type 0 where
   pub req : Req
   pub answer : Answer
-  pub adds : Adds m (Event.Reply req answer) old new
+  pub adds : Adds m (Event.Reply (record { req = req; answer = answer })) old new
 
 -- the journal has the replies that were due, none where nothing was
 pub record GaveReplies (m : ℕ) (old new : Parted) : Type 0 where
@@ -142,4 +142,4 @@ pub record IsNextStart (m : ℕ) (p : Parted) (run : Run) (s : Started) : Type 0
 
 -- the journal has the start as one more entry
 abbrev pub StartsNext : ℕ → Started → Parted → Parted → Type 0
-StartsNext m s old new = Adds m (Event.Start s.run s.req s.slot s.reg s.kind s.attempt) old new
+StartsNext m s old new = Adds m (Event.Start (record { run = s.run; req = s.req; slot = s.slot; reg = s.reg; kind = s.kind; attempt = s.attempt })) old new

@@ -2,7 +2,7 @@
 -- and after it, where the call is refused too.
 use Rattle.std.specs.Prelude.{ℕ, List, [], ◌∷◌, ◌++◌, ◌≡◌, ◌≤◌, false, not, filter}
 use Rattle.std.specs.List.{AllByRecursion}
-use Rattle.fnc_journal.specs.declared.entry.Event.{Event}
+use Rattle.fnc_journal.specs.declared.event.Event.{Event}
 use Rattle.fnc_journal.specs.declared.entry.Req.{Req}
 use Rattle.fnc_journal.specs.declared.plan.Plan.{Plan}
 use Rattle.fnc_journal.specs.History.{History}
@@ -47,7 +47,7 @@ abbrev pub entered_by : (old new : Cored) → IsCall old new → History
 entered_by old new (Advanced m later advances) = []
 entered_by old new (Entered m event later unreply enters) = entry m event ∷ []
 entered_by old new (Asked m a p req later asks) = entry m (ask_event req asks.lead a p) ∷ []
-entered_by old new (Began s starts) = entry old.last (Event.Start s.run s.req s.slot s.reg s.kind s.attempt) ∷ []
+entered_by old new (Began s starts) = entry old.last (Event.Start (record { run = s.run; req = s.req; slot = s.slot; reg = s.reg; kind = s.kind; attempt = s.attempt })) ∷ []
 entered_by old new (Stayed same) = []
 
 -- the entries of all calls, the newest first

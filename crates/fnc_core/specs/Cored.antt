@@ -1,7 +1,7 @@
 -- What contracts see of the core, what holds of it after every call, and what a call adds to its journal.
 use Rattle.std.specs.Prelude.{ℕ, List, [], ◌∷◌, ◌++◌, length, ◌≡◌, ◌+◌, ◌≤◌, ◌<◌, true, option_map, unwrap_or, Option, Some, None}
 use Rattle.fnc_journal.specs.declared.entry.Entry.{Entry}
-use Rattle.fnc_journal.specs.declared.entry.Event.{Event}
+use Rattle.fnc_journal.specs.declared.event.Event.{Event}
 use Rattle.fnc_journal.specs.declared.entry.Req.{Req}
 use Rattle.fnc_journal.specs.declared.outcome.Full.{Full}
 use Rattle.fnc_journal.specs.declared.plan.Plan.{Plan}
@@ -67,7 +67,7 @@ next_of v = record { 0 = asks v.history }
 
 -- the entry of a request
 abbrev pub ask_event : Req → Req → Ask → Plan → Event
-ask_event req lead a p = Event.Ask req lead a.client a.kind a.target a.total a.coin p.scope
+ask_event req lead a p = Event.Ask (record { req = req; lead = lead; client = a.client; kind = a.kind; target = a.target; total = a.total; coin = a.coin; scope = p.scope })
 
 -- a request enters, with the lead that it has after the advance
 pub record Asks (old new : Cored) (m : ℕ) (a : Ask) (p : Plan) (req : Req) : Type 0 where
@@ -103,12 +103,12 @@ pub record Follows (old new : Cored) (event : Event) : Type 0 where
 
 -- the entry of a change: a device gets the next number
 abbrev pub event_of : History → Change → Event
-event_of h (Change.Device registration) = Event.Device (record { 0 = devices h }) registration
+event_of h (Change.Device registration) = Event.Device (record { reg = record { 0 = devices h }; registration = registration })
 event_of h (Change.Gone reg) = Event.Gone reg
-event_of h (Change.Level target index names) = Event.Level target index names
-event_of h (Change.LevelGone target index) = Event.LevelGone target index
-event_of h (Change.Agent name description) = Event.Agent name description
-event_of h (Change.Confirm client target) = Event.Confirm client target
+event_of h (Change.Level target index names) = Event.Level (record { target = target; index = index; devices = names })
+event_of h (Change.LevelGone target index) = Event.LevelGone (record { target = target; index = index })
+event_of h (Change.Agent name description) = Event.Agent (record { name = name; description = description })
+event_of h (Change.Confirm client target) = Event.Confirm (record { client = client; target = target })
 
 -- the entries that a request wants: its own and its reply, and where it begins an operation a start and an exit for each try
 abbrev pub wanted_by : Cored → ℕ → Ask → Plan → Option Operation → ℕ
@@ -147,7 +147,7 @@ IsStart v s = IsFirstStart v.history v.last s
 -- the first try that may start was started
 pub record Starts (old new : Cored) (s : Started) : Type 0 where
   pub is : IsStart old s
-  pub history : new.history ≡ record { moment = old.last; event = Event.Start s.run s.req s.slot s.reg s.kind s.attempt } ∷ old.history
+  pub history : new.history ≡ record { moment = old.last; event = Event.Start (record { run = s.run; req = s.req; slot = s.slot; reg = s.reg; kind = s.kind; attempt = s.attempt }) } ∷ old.history
   pub fits : length new.history ≤ new.limit
   pub last : new.last ≡ old.last
   pub limit : new.limit ≡ old.limit

@@ -2,7 +2,7 @@
 use Rattle.std.specs.Prelude.{ℕ, ◌+◌, min, Option, Some, None, option_map, unwrap_or}
 use Rattle.fnc_journal.specs.declared.definition.Registration.{Registration}
 use Rattle.fnc_journal.specs.declared.entry.Entry.{Entry}
-use Rattle.fnc_journal.specs.declared.entry.Event.{Event}
+use Rattle.fnc_journal.specs.declared.event.Event.{Event}
 use Rattle.fnc_journal.specs.declared.entry.Kind.{Kind}
 use Rattle.fnc_journal.specs.History.{History}
 use Rattle.fnc_journal.specs.Found.{registration}
@@ -11,7 +11,7 @@ use Rattle.fnc_ops.specs.SlotRecords.{capped}
 
 -- when the total time of a request is over that came at a moment
 abbrev pub over_by : ℕ → Event → ℕ
-over_by m (Event.Ask req lead client kind target total coin scope) = capped 64 (m + total)
+over_by m (Event.Ask ask) = capped 64 (m + ask.total)
 over_by m _ = m
 
 -- as its entry says, 0 where there is none

@@ -1,7 +1,7 @@
 // Requests that enter: each joins an operation or begins its own.
 
 ghost use Rattle.std.specs.Prelude.{◌≡◌, true, option_map, Some, None, IfOk, OnOk, OnErr};
-ghost use Rattle.fnc_journal.specs.declared.entry.Event.{Event};
+ghost use Rattle.fnc_journal.specs.declared.event.Event.{Event};
 ghost use Rattle.fnc_journal.specs.Operations.{joined};
 ghost use Rattle.fnc_journal.specs.Lawful.{in_order};
 ghost use Rattle.fnc_ops.specs.Stands as Stands;
@@ -10,7 +10,7 @@ ghost use Rattle.fnc_core.specs.Between.{Between, Rests, Adds, Stays, RoomFor, I
 use crate::change::Ask;
 use crate::parts::Parts;
 use crate::queueing::requeue;
-use fnc_journal::{Entry, Event, NoMemory, Plan, Req, Scope, Text};
+use fnc_journal::{Entry, Event, NoMemory, Plan, Req, Request, Scope, Text};
 use fnc_ops::{Operation, allowed_tries};
 use std::alloc::Global;
 
@@ -18,7 +18,7 @@ use std::alloc::Global;
 fn ask_entry(moment: u64, req: Req, lead: Req, ask: Ask, scope: Scope) -> Entry
     ensures { result ≡ Stands.ask_entry moment req lead ask.client ask.kind ask.target ask.total ask.coin scope }
 {
-    let event = Event::Ask {
+    let event = Event::Ask(Request {
         req,
         lead,
         client: ask.client,
@@ -27,7 +27,7 @@ fn ask_entry(moment: u64, req: Req, lead: Req, ask: Ask, scope: Scope) -> Entry
         total: ask.total,
         coin: ask.coin,
         scope,
-    };
+    });
     Entry { moment, event }
 }
 

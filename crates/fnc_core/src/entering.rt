@@ -1,7 +1,7 @@
 // What enters the core at its last moment, where there is room for it.
 
 ghost use Rattle.std.specs.Prelude.{◌≡◌, ◌≤◌, true, false, option_map, Some, None, OnOk, OnErr, IfErr};
-ghost use Rattle.fnc_journal.specs.declared.entry.Event.{Event};
+ghost use Rattle.fnc_journal.specs.declared.event.Event.{Event};
 ghost use Rattle.fnc_journal.specs.Found.{is_device};
 ghost use Rattle.fnc_journal.specs.Lawful.{in_order, may_ask};
 ghost use Rattle.fnc_journal.specs.Operations.{joined};
@@ -12,7 +12,7 @@ ghost use Rattle.fnc_core.specs.Cored.{Follows, HasRoom, IsRefusal, IsAskRefusal
 use crate::change::{Ask, Change};
 use crate::machine::Core;
 use crate::refusal::AskRefusal;
-use fnc_journal::{Event, Plan, Reg, Req, Scope};
+use fnc_journal::{Described, Event, LevelCleared, LevelSet, Plan, Reg, Registered, Req, Scope};
 use fnc_ops::allowed_tries;
 use std::alloc::Global;
 
@@ -39,7 +39,7 @@ impl Core {
             Change::Device(registration) => {
                 let reg = Reg(self.next_reg);
                 self.parts
-                    .enter(self.last, Event::Device { reg, registration });
+                    .enter(self.last, Event::Device(Registered { reg, registration }));
                 self.next_reg += 1;
             }
             Change::Gone(reg) => self.enter(Event::Gone { reg }),
@@ -47,13 +47,13 @@ impl Core {
                 target,
                 index,
                 devices,
-            } => self.enter(Event::Level {
+            } => self.enter(Event::Level(LevelSet {
                 target,
                 index,
                 devices,
-            }),
-            Change::LevelGone { target, index } => self.enter(Event::LevelGone { target, index }),
-            Change::Agent { name, description } => self.enter(Event::Agent { name, description }),
+            })),
+            Change::LevelGone { target, index } => self.enter(Event::LevelGone(LevelCleared { target, index })),
+            Change::Agent { name, description } => self.enter(Event::Agent(Described { name, description })),
             Change::Confirm { client, target } => {
                 self.parts.confirm(self.last, client, target);
                 self.parts.give_replies(self.last);

@@ -1,7 +1,7 @@
 // Inputs that enter: what touches no operation, an operator's word, and the exit of a run.
 
 ghost use Rattle.std.specs.Prelude.{◌≡◌, ◌||◌, true, Some};
-ghost use Rattle.fnc_journal.specs.declared.entry.Event.{Event};
+ghost use Rattle.fnc_journal.specs.declared.event.Event.{Event};
 ghost use Rattle.fnc_journal.specs.Missing.{or_here};
 ghost use Rattle.fnc_journal.specs.Found as Found;
 ghost use Rattle.fnc_journal.specs.Startable as Startable;
@@ -11,7 +11,7 @@ ghost use Rattle.fnc_core.specs.Between.{Between, Rests, Adds, RoomFor, is_quiet
 use crate::lanes::lane_of;
 use crate::parts::Parts;
 use crate::queueing::requeue;
-use fnc_journal::{Entry, Event, Exit, Journal, Kind, Reg, Req, Run, Slot, Text};
+use fnc_journal::{Confirmation, Ended, Entry, Event, Exit, Journal, Kind, Reg, Req, Run, Slot, Start, Text};
 use std::marker::Model;
 
 /// What a run was started for.
@@ -36,14 +36,14 @@ fn started_here(event: &Event, run: Run) -> Option<RunStart>
     ensures { result ≡ Found.started_here run.0 event.now }
 {
     match event {
-        Event::Start {
+        Event::Start(Start {
             run: number,
             req,
             slot,
             reg,
             kind,
             ..
-        } => {
+        }) => {
             if run.0 == number.0 {
                 Some(RunStart {
                     req: *req,
@@ -85,7 +85,7 @@ fn is_exit_of(event: &Event, run: Run) -> bool
     ensures { result ≡ Found.is_exit_of run.0 event.now }
 {
     match event {
-        Event::Exit { run: number, .. } => run.0 == number.0,
+        Event::Exit(Ended { run: number, .. }) => run.0 == number.0,
         _ => false,
     }
 }
@@ -139,7 +139,7 @@ impl Parts {
         self.ops.confirm(&self.journal, target.as_str());
         self.journal.push(Entry {
             moment,
-            event: Event::Confirm { client, target },
+            event: Event::Confirm(Confirmation { client, target }),
         });
     }
 
@@ -155,7 +155,7 @@ impl Parts {
         self.queue.ended(lane_of(&self.journal, start.reg));
         self.journal.push(Entry {
             moment,
-            event: Event::Exit { run, exit, listed },
+            event: Event::Exit(Ended { run, exit, listed }),
         });
         requeue(&self.journal, &self.ops, &mut self.queue, start.req);
     }

@@ -1,7 +1,7 @@
 // The core: one event of the fencer after another.
 
 ghost use Rattle.std.specs.Prelude.{◌≡◌, ◌<◌, ◌≤◌, ◌+◌, ◌*◌, ◌^◌, ◌↔◌, [], true, None, IsOk, IsNone, IfOk, IfErr, IfNone, IfSome, OnOk, OnErr, option_map};
-ghost use Rattle.fnc_journal.specs.declared.entry.Event.{Event};
+ghost use Rattle.fnc_journal.specs.declared.event.Event.{Event};
 ghost use Rattle.fnc_journal.specs.Found.{asks};
 ghost use Rattle.fnc_journal.specs.Lawful.{in_order, may_ask};
 ghost use Rattle.fnc_journal.specs.Levels.{is_in_place};
@@ -13,7 +13,7 @@ ghost use Rattle.fnc_core.specs.Cored.{Sound, Advances, Enters, Asks, Starts, Ha
 use crate::change::{Ask, Change, Started};
 use crate::parts::Parts;
 use crate::refusal::{AskRefusal, UnknownRun};
-use fnc_journal::{Cause, Event, Exit, Full, Journal, Kind, NoMemory, Plan, Req, Run};
+use fnc_journal::{Cause, Event, Exit, Full, Journal, Kind, NoMemory, Plan, Refusal, Req, Run};
 use fnc_ops::Ops;
 use fnc_queue::Queue;
 use std::alloc::Global;
@@ -162,7 +162,7 @@ impl Core {
     {
         self.advance(moment);
         self.room(1)?;
-        self.enter(Event::Refused { line, cause });
+        self.enter(Event::Refused(Refusal { line, cause }));
         Ok(())
     }
 

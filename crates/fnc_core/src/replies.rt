@@ -8,7 +8,7 @@ ghost use Rattle.fnc_core.specs.Between.{Between, Rests, AddsReply, GaveReplies}
 
 use crate::parts::Parts;
 use crate::queueing::requeue;
-use fnc_journal::{Entry, Event};
+use fnc_journal::{Entry, Event, Reply};
 use fnc_ops::Due;
 
 impl Parts {
@@ -24,10 +24,10 @@ impl Parts {
             requeue(&self.journal, &self.ops, &mut self.queue, due.req);
             self.journal.push(Entry {
                 moment,
-                event: Event::Reply {
+                event: Event::Reply(Reply {
                     req,
                     answer: due.answer,
-                },
+                }),
             });
         }
     }

@@ -8,7 +8,7 @@ ghost use Rattle.fnc_core.specs.Between.{Rests, StartsNext, IsNextStart};
 use crate::change::Started;
 use crate::limits::limit_of;
 use crate::parts::Parts;
-use fnc_journal::{Entry, Event, Run};
+use fnc_journal::{Entry, Event, Run, Start};
 
 impl Parts {
     /// The start that may be made first at a moment, with the number that its run would have. None exactly where
@@ -47,14 +47,14 @@ impl Parts {
         self.ops.started(&self.journal, started.req, run, moment);
         self.journal.push(Entry {
             moment,
-            event: Event::Start {
+            event: Event::Start(Start {
                 run,
                 req: started.req,
                 slot: started.slot,
                 reg: started.reg,
                 kind: started.kind,
                 attempt: started.attempt,
-            },
+            }),
         });
         Some(started)
     }

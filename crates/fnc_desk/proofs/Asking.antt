@@ -1,7 +1,7 @@
 -- A request that the core takes is the one that its line asks, and it begins its own operation.
 use Rattle.std.proofs.Common.{ℕ, List, ◌++◌, ◌≡◌, ◌≤◌, false, ap, ap₂, sym, ◌∙◌, subst, Option, None}
 use Rattle.std.specs.Prelude.{option_map, unwrap_or}
-use Rattle.fnc_journal.specs.declared.entry.Event.{Event}
+use Rattle.fnc_journal.specs.declared.event.Event.{Event}
 use Rattle.fnc_journal.specs.declared.entry.Req.{Req}
 use Rattle.fnc_journal.specs.declared.outcome.Full.{Full}
 use Rattle.fnc_journal.specs.declared.plan.Plan.{Plan}

@@ -3,7 +3,7 @@ use Rattle.std.proofs.Common.{ℕ, ◌∷◌, ◌++◌, Bool, true, false, ◌�
 use Rattle.fnc_journal.specs.declared.cause.Cause.{Cause}
 use Rattle.fnc_journal.specs.declared.entry.Entry.{Entry}
 use Rattle.fnc_journal.specs.declared.entry.Exit.{Exit}
-use Rattle.fnc_journal.specs.declared.entry.Event.{Event}
+use Rattle.fnc_journal.specs.declared.event.Event.{Event}
 use Rattle.fnc_journal.specs.History.{History}
 use Rattle.fnc_journal.specs.Found.{devices, is_input}
 use Rattle.fnc_journal.specs.Startable.{is_alive}
@@ -28,7 +28,7 @@ called-is_input (Said.Ask m client target) h last n = go (nat_le last m && (devi
     go false = refl
 called-is_input (Said.Exit m run code) h last n = go (nat_le last m) (is_alive run h)
   where
-    go : (b c : Bool) → is_input (cond b (cond c (record { moment = m; event = Event.Exit (record { 0 = run }) (Exit.Code code) false }) (refused m n Cause.UnknownRun)) (refused last n Cause.UnknownVerb)).event ≡ true
+    go : (b c : Bool) → is_input (cond b (cond c (record { moment = m; event = Event.Exit (record { run = record { 0 = run }; exit = Exit.Code code; listed = false }) }) (refused m n Cause.UnknownRun)) (refused last n Cause.UnknownVerb)).event ≡ true
     go true true = refl
     go true false = refl
     go false c = refl

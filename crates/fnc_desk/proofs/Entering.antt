@@ -4,7 +4,7 @@ use Rattle.std.specs.Prelude.{Result, OnOk, OnErr, IfErr}
 use Rattle.fnc_journal.specs.declared.cause.Cause.{Cause}
 use Rattle.fnc_journal.specs.declared.definition.Registration.{Registration}
 use Rattle.fnc_journal.specs.declared.entry.Entry.{Entry}
-use Rattle.fnc_journal.specs.declared.entry.Event.{Event}
+use Rattle.fnc_journal.specs.declared.event.Event.{Event}
 use Rattle.fnc_journal.specs.declared.outcome.Full.{Full}
 use Rattle.fnc_journal.specs.declared.entry.Exit.{Exit}
 use Rattle.fnc_journal.specs.History.{History}
@@ -16,7 +16,7 @@ use Rattle.fnc_desk.proofs.Replied.{inputs-replied}
 
 -- the entry of a device
 abbrev pub device_entry : ℕ → ℕ → Registration → Entry
-device_entry m reg registration = record { moment = m; event = Event.Device (record { 0 = reg }) registration }
+device_entry m reg registration = record { moment = m; event = Event.Device (record { reg = record { 0 = reg }; registration = registration }) }
 
 pub takes-known : (input : Entry) (old new : Cored) → old.last ≤ input.moment → Enters old new input.moment input.event → TakesInput input old new
 takes-known input old new l e = record { entry = input; later = l; enters = e; is = inl refl }
@@ -110,12 +110,12 @@ lacks-refusal input old new line (Ok u) m l t = tt
 lacks-refusal input old new line (Err full) m l t = record { entry = t.entry; later = t.later; advances = t.advances; is = in-place_of input t.entry line (next_line old) m l t.is; is_full = t.is_full }
 
 -- the exit of a run that is alive, and of one that is not
-pub exit-alive : (m run code number : ℕ) (h : History) → is_alive run h ≡ true → record { moment = m; event = Event.Exit (record { 0 = run }) (Exit.Code code) false } ≡ exit_input m run code h number
+pub exit-alive : (m run code number : ℕ) (h : History) → is_alive run h ≡ true → record { moment = m; event = Event.Exit (record { run = record { 0 = run }; exit = Exit.Code code; listed = false }) } ≡ exit_input m run code h number
 exit-alive m run code number h e = rw e refl
 
 pub exit-unknown : (m run code number : ℕ) (h : History) → (is_alive run h ≡ true → false ≡ true) → refused m number Cause.UnknownRun ≡ exit_input m run code h number
 exit-unknown m run code number h k = go (is_alive run h) k
   where
-    go : (b : Bool) → (b ≡ true → false ≡ true) → refused m number Cause.UnknownRun ≡ cond b (record { moment = m; event = Event.Exit (record { 0 = run }) (Exit.Code code) false }) (refused m number Cause.UnknownRun)
+    go : (b : Bool) → (b ≡ true → false ≡ true) → refused m number Cause.UnknownRun ≡ cond b (record { moment = m; event = Event.Exit (record { run = record { 0 = run }; exit = Exit.Code code; listed = false }) }) (refused m number Cause.UnknownRun)
     go true k = let bad : false ≡ true = k refl in cc
     go false k = refl

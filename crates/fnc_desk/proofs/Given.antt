@@ -3,7 +3,7 @@ use Rattle.std.proofs.Common.{ℕ, List, [], ◌++◌, Bool, true, false, ◌≡
 use Rattle.std.specs.Prelude.{Result, OnOk, IfErr}
 use Rattle.fnc_journal.specs.declared.cause.Cause.{Cause}
 use Rattle.fnc_journal.specs.declared.entry.Entry.{Entry}
-use Rattle.fnc_journal.specs.declared.entry.Event.{Event}
+use Rattle.fnc_journal.specs.declared.event.Event.{Event}
 use Rattle.fnc_journal.specs.declared.entry.Exit.{Exit}
 use Rattle.fnc_journal.specs.declared.outcome.Full.{Full}
 use Rattle.fnc_journal.specs.History.{History}
@@ -29,7 +29,7 @@ same-input : (s : Said) (h rs : History) (last n m : ℕ) → AreReplies m rs �
 same-input (Said.Device at name) h rs last n m a still q =
     ap (λ k. cond (nat_le last at && (k == 0)) (device_input at name) (refused last n Cause.UnknownVerb)) (devices-replied m rs h a)
 same-input (Said.Exit at run code) h rs last n m a still q =
-    ap (λ b. cond (nat_le last at) (cond b (record { moment = at; event = Event.Exit (record { 0 = run }) (Exit.Code code) false }) (refused at n Cause.UnknownRun)) (refused last n Cause.UnknownVerb))
+    ap (λ b. cond (nat_le last at) (cond b (record { moment = at; event = Event.Exit (record { run = record { 0 = run }; exit = Exit.Code code; listed = false }) }) (refused at n Cause.UnknownRun)) (refused last n Cause.UnknownVerb))
     (is_alive-replied m rs h a run)
 same-input (Said.Ask at client target) h rs last n m a still q = go (nat_le last at && (devices h == 1) && not (has_operation target h)) refl q
   where
@@ -94,7 +94,7 @@ first-input (Said.Ask at client target) h last n = go (nat_le last at && (device
     go false k = tt
 first-input (Said.Exit at run code) h last n = go (nat_le last at) (is_alive run h)
   where
-    go : (b c : Bool) → IsFirstEntry (cond b (cond c (record { moment = at; event = Event.Exit (record { 0 = run }) (Exit.Code code) false }) (refused at n Cause.UnknownRun)) (refused last n Cause.UnknownVerb)).event h
+    go : (b c : Bool) → IsFirstEntry (cond b (cond c (record { moment = at; event = Event.Exit (record { run = record { 0 = run }; exit = Exit.Code code; listed = false }) }) (refused at n Cause.UnknownRun)) (refused last n Cause.UnknownVerb)).event h
     go true true = tt
     go true false = tt
     go false c = tt

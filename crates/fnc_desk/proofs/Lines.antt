@@ -4,7 +4,7 @@ use Rattle.std.specs.Prelude.{find, option_map, option_and_then, unwrap_or}
 use Rattle.fnc_outside.specs.Writes.{AppendsPart}
 use Rattle.fnc_journal.specs.declared.definition.Registration.{Registration}
 use Rattle.fnc_journal.specs.declared.entry.Entry.{Entry}
-use Rattle.fnc_journal.specs.declared.entry.Event.{Event}
+use Rattle.fnc_journal.specs.declared.event.Event.{Event}
 use Rattle.fnc_journal.specs.History.{History}
 use Rattle.fnc_journal.specs.Missing.{or_here}
 use Rattle.fnc_journal.specs.Found.{Asked, asked, asked_here, asks, entry_at, is_ask_of, registration, registration_here}
@@ -26,30 +26,30 @@ target_found (e ∷ before) l r = go e.event (in_order-of e.moment e.event befor
     go : (event : Event) → IsTrue (in_order event before) → found_target (find (λ e. is_ask_of r e.event) before) ≡ target_of r before →
         found_target (cond (is_ask_of r event) (Some (record { moment = e.moment; event = event })) (find (λ e. is_ask_of r e.event) before))
         ≡ target_of r (record { moment = e.moment; event = event } ∷ before)
-    go (Event.Ask req lead client kind target total coin scope) i ih = ask (r == req.0) refl
+    go (Event.Ask ask_) i ih = ask (r == ask_.req.0) refl
       where
         said : Asked
-        said = record { moment = e.moment; lead = lead.0; kind = kind; target = target; total = total; coin = coin; scope = scope; before = before }
+        said = record { moment = e.moment; lead = ask_.lead.0; kind = ask_.kind; target = ask_.target; total = ask_.total; coin = ask_.coin; scope = ask_.scope; before = before }
 
-        new : req.0 ≡ asks before
-        new = eqb-true req.0 (asks before) (and-left _ _ (and-left _ _ (and-left _ _ (and-left _ _ i))))
+        new : ask_.req.0 ≡ asks before
+        new = eqb-true ask_.req.0 (asks before) (and-left _ _ (and-left _ _ (and-left _ _ (and-left _ _ i))))
 
-        first : (x : Option Asked) → x ≡ None → target ≡ unwrap_or (option_map (λ (a : Asked). a.target) (or_here x (Some said))) []
+        first : (x : Option Asked) → x ≡ None → ask_.target ≡ unwrap_or (option_map (λ (a : Asked). a.target) (or_here x (Some said))) []
         first None p = refl
         first (Some a) p = cc
 
-        ask : (b : Bool) → (r == req.0) ≡ b →
-            found_target (cond b (Some (record { moment = e.moment; event = Event.Ask req lead client kind target total coin scope })) (find (λ e. is_ask_of r e.event) before))
+        ask : (b : Bool) → (r == ask_.req.0) ≡ b →
+            found_target (cond b (Some (record { moment = e.moment; event = Event.Ask ask_ })) (find (λ e. is_ask_of r e.event) before))
             ≡ unwrap_or (option_map (λ (a : Asked). a.target) (or_here (asked r before) (cond b (Some said) None))) []
         ask true k =
-            let same : r ≡ req.0 = eqb-true r req.0 k in
+            let same : r ≡ ask_.req.0 = eqb-true r ask_.req.0 k in
             first (asked r before) (fresh_ask before l.1 r (omega (arith, same, new)))
         ask false k = ih
     go _ i ih = ih
 
 -- what a start names is in the journal
 abbrev Known : Event → History → Type 0
-Known (Event.Start run req slot reg kind attempt) h = IsTrue (is_some (registration reg.0 h)) × IsTrue (is_some (asked req.0 h))
+Known (Event.Start start) h = IsTrue (is_some (registration start.reg.0 h)) × IsTrue (is_some (asked start.req.0 h))
 Known _ h = Unit {0}
 
 some-more : {X : Type 0} (x y : Option X) → IsTrue (is_some x) → IsTrue (is_some (or_here x y))
@@ -71,17 +71,17 @@ asked-of o h s = go (asked o h) s
     go (Some a) s = refl
 
 known-here : (event : Event) (h : History) → IsTrue (in_order event h) → Known event h
-known-here (Event.Start run req slot reg kind attempt) h i = (and-right _ _ i, asked-of req.0 h (and-right _ _ (and-left _ _ i)))
+known-here (Event.Start start) h i = (and-right _ _ i, asked-of start.req.0 h (and-right _ _ (and-left _ _ i)))
 known-here _ h i = tt
 
 known-more : (event : Event) (e : Entry) (h : History) → Known event h → Known event (e ∷ h)
-known-more (Event.Start run req slot reg kind attempt) e h k = (some-more (registration reg.0 h) (registration_here reg.0 e.event) k.0, some-more (asked req.0 h) (asked_here req.0 e.moment h e.event) k.1)
+known-more (Event.Start start) e h k = (some-more (registration start.reg.0 h) (registration_here start.reg.0 e.event) k.0, some-more (asked start.req.0 h) (asked_here start.req.0 e.moment h e.event) k.1)
 known-more _ e h k = tt
 
 line-more : (event : Event) (e : Entry) (h : History) → Known event h → line_of event (e ∷ h) ≡ line_of event h
-line-more (Event.Start run req slot reg kind attempt) e h k =
-    ap₂ (λ (x : Option Registration) (y : Option Asked). start_line run.0 (unwrap_or (option_map (λ (r : Registration). r.name) x) []) kind (unwrap_or (option_map (λ (a : Asked). a.target) y) []) attempt)
-    (first-stays (registration reg.0 h) (registration_here reg.0 e.event) k.0) (first-stays (asked req.0 h) (asked_here req.0 e.moment h e.event) k.1)
+line-more (Event.Start start) e h k =
+    ap₂ (λ (x : Option Registration) (y : Option Asked). start_line start.run.0 (unwrap_or (option_map (λ (r : Registration). r.name) x) []) start.kind (unwrap_or (option_map (λ (a : Asked). a.target) y) []) start.attempt)
+    (first-stays (registration start.reg.0 h) (registration_here start.reg.0 e.event) k.0) (first-stays (asked start.req.0 h) (asked_here start.req.0 e.moment h e.event) k.1)
 line-more _ e h k = refl
 
 line-found : (h : History) → Lawful h → (n : ℕ) (e : Entry) → entry_at n h ≡ Some e → Known e.event h × (line_at n h ≡ line_of e.event h)

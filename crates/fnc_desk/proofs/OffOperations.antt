@@ -3,7 +3,7 @@ use Rattle.std.proofs.Common.{ℕ, List, [], ◌∷◌, Bool, true, false, ◌�
 use Rattle.std.specs.Prelude.{bytes_eq, find, option_and_then, option_map, unwrap_or}
 use Rattle.std.specs.List.{list_any}
 use Rattle.std.specs.Option.{option_or}
-use Rattle.fnc_journal.specs.declared.entry.Event.{Event}
+use Rattle.fnc_journal.specs.declared.event.Event.{Event}
 use Rattle.fnc_journal.specs.declared.entry.Kind.{Kind}
 use Rattle.fnc_journal.specs.declared.entry.Scope.{Scope}
 use Rattle.fnc_journal.specs.History.{History}
@@ -37,10 +37,10 @@ off-asked [] f n a e = cc
 off-asked (e ∷ before) f n a q = go e.event f.0 q (λ p. off-asked before f.1 n a p)
   where
     go : (event : Event) → IsFirstEntry event before → or_here (asked n before) (asked_here n e.moment before event) ≡ Some a → (asked n before ≡ Some a → IsOff a) → IsOff a
-    go (Event.Ask req lead client kind target total coin scope) k q ih = here (asked n before) (n == req.0) q ih
+    go (Event.Ask ask) k q ih = here (asked n before) (n == ask.req.0) q ih
       where
         said : Asked
-        said = record { moment = e.moment; lead = lead.0; kind = kind; target = target; total = total; coin = coin; scope = scope; before = before }
+        said = record { moment = e.moment; lead = ask.lead.0; kind = ask.kind; target = ask.target; total = ask.total; coin = ask.coin; scope = ask.scope; before = before }
 
         new : IsOff said
         new = record { kind = k.is_off; scope = k.no_levels; one = one-known before f.1 k.device }

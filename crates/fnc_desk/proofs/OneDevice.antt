@@ -6,7 +6,7 @@ use Rattle.std.specs.Option.{option_copied}
 use Rattle.fnc_journal.specs.declared.definition.Definition.{Definition}
 use Rattle.fnc_journal.specs.declared.definition.Registration.{Registration}
 use Rattle.fnc_journal.specs.declared.entry.Entry.{Entry}
-use Rattle.fnc_journal.specs.declared.entry.Event.{Event}
+use Rattle.fnc_journal.specs.declared.event.Event.{Event}
 use Rattle.fnc_journal.specs.declared.entry.Kind.{Kind}
 use Rattle.fnc_journal.specs.declared.entry.LevelTarget.{LevelTarget}
 use Rattle.fnc_journal.specs.declared.entry.Scope.{Scope}
@@ -44,7 +44,7 @@ pub record HasOne (h : History) : Type 0 where
   pub candidates_are : (w : Wanted) (g : History) → w.kind ≡ Kind.Off → current name g ≡ Some 0 → candidates_among w g h ≡ only_device ∷ []
 
 -- the device is registered
-first-device : (m : ℕ) (name agent : List ℕ) (h : History) → HasNone h → HasOne (record { moment = m; event = Event.Device (record { 0 = 0 }) (record { name = name; agent = agent; definition = plain }) } ∷ h)
+first-device : (m : ℕ) (name agent : List ℕ) (h : History) → HasNone h → HasOne (record { moment = m; event = Event.Device (record { reg = record { 0 = 0 }; registration = record { name = name; agent = agent; definition = plain } }) } ∷ h)
 first-device m name agent h n = record {
   name = name;
   agent = agent;
@@ -83,26 +83,26 @@ first-known (e ∷ before) f = go e.event f.0 (first-known before f.1)
     same event d r c u (inr n) = inr (same-one (record { moment = e.moment; event = event }) before d r c u n)
 
     device : (reg : ℕ) (r : Registration) → devices before ≡ 0 → reg ≡ 0 → r.definition ≡ plain → HasNone before ⊎ HasOne before →
-        HasOne (record { moment = e.moment; event = Event.Device (record { 0 = reg }) r } ∷ before)
+        HasOne (record { moment = e.moment; event = Event.Device (record { reg = record { 0 = reg }; registration = r }) } ∷ before)
     device reg r z n p (inl k) =
-        subst (λ x. HasOne (record { moment = e.moment; event = Event.Device (record { 0 = x }) r } ∷ before)) (sym n)
-        (subst (λ (d : Definition). HasOne (record { moment = e.moment; event = Event.Device (record { 0 = 0 }) (record { name = r.name; agent = r.agent; definition = d }) } ∷ before)) (sym p)
+        subst (λ x. HasOne (record { moment = e.moment; event = Event.Device (record { reg = record { 0 = x }; registration = r }) } ∷ before)) (sym n)
+        (subst (λ (d : Definition). HasOne (record { moment = e.moment; event = Event.Device (record { reg = record { 0 = 0 }; registration = record { name = r.name; agent = r.agent; definition = d } }) } ∷ before)) (sym p)
         (first-device e.moment r.name r.agent before k))
     device reg r z n p (inr k) = let one : devices before ≡ 1 = k.counted in absurd (omega (arith, z, one))
 
     go : (event : Event) → IsFirstEntry event before → HasNone before ⊎ HasOne before → HasNone (record { moment = e.moment; event = event } ∷ before) ⊎ HasOne (record { moment = e.moment; event = event } ∷ before)
-    go (Event.Device reg r) f k = inr (device reg.0 r f.first f.number f.is_plain k)
-    go (Event.Ask req lead client kind target total coin scope) f k = same (Event.Ask req lead client kind target total coin scope) refl refl (λ w g. refl) (λ name. refl) k
-    go (Event.Exit run exit listed) f k = same (Event.Exit run exit listed) refl refl (λ w g. refl) (λ name. refl) k
-    go (Event.Refused line cause) f k = same (Event.Refused line cause) refl refl (λ w g. refl) (λ name. refl) k
-    go (Event.Start run req slot reg kind attempt) f k = same (Event.Start run req slot reg kind attempt) refl refl (λ w g. refl) (λ name. refl) k
-    go (Event.Reply req answer) f k = same (Event.Reply req answer) refl refl (λ w g. refl) (λ name. refl) k
+    go (Event.Device device_) f k = inr (device device_.reg.0 device_.registration f.first f.number f.is_plain k)
+    go (Event.Ask ask) f k = same (Event.Ask ask) refl refl (λ w g. refl) (λ name. refl) k
+    go (Event.Exit ended) f k = same (Event.Exit ended) refl refl (λ w g. refl) (λ name. refl) k
+    go (Event.Refused refusal) f k = same (Event.Refused refusal) refl refl (λ w g. refl) (λ name. refl) k
+    go (Event.Start start) f k = same (Event.Start start) refl refl (λ w g. refl) (λ name. refl) k
+    go (Event.Reply reply) f k = same (Event.Reply reply) refl refl (λ w g. refl) (λ name. refl) k
     go (Event.Gone reg) f k = absurd f
-    go (Event.Level target index devices) f k = absurd f
-    go (Event.LevelGone target index) f k = absurd f
-    go (Event.Agent name description) f k = absurd f
+    go (Event.Level set) f k = absurd f
+    go (Event.LevelGone cleared) f k = absurd f
+    go (Event.Agent described) f k = absurd f
     go Event.Pass f k = absurd f
-    go (Event.Confirm client target) f k = absurd f
+    go (Event.Confirm confirmation) f k = absurd f
 
 -- where a device is counted it is the only one
 pub one-known : (h : History) → IsFirst h → devices h ≡ 1 → HasOne h
@@ -118,8 +118,8 @@ no-levels [] f t = refl
 no-levels (e ∷ before) f t = go e.event f.0 (no-levels before f.1 t)
   where
     go : (event : Event) → IsFirstEntry event before → levels t before ≡ [] → levels t (record { moment = e.moment; event = event } ∷ before) ≡ []
-    go (Event.Level target index devices) f k = absurd f
-    go (Event.LevelGone target index) f k = absurd f
+    go (Event.Level set) f k = absurd f
+    go (Event.LevelGone cleared) f k = absurd f
     go _ f k = k
 
 pub in-place : (h : History) → IsFirst h → (target : List ℕ) → is_in_place Scope.Nothing target h ≡ true

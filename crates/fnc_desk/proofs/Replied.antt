@@ -3,7 +3,7 @@ use Rattle.std.proofs.Common.{ℕ, List, [], ◌∷◌, ◌++◌, Bool, true, fa
 use Rattle.std.specs.Prelude.{bytes_eq, filter, filter_map}
 use Rattle.std.specs.List.{list_any, cons_option}
 use Rattle.fnc_journal.specs.declared.entry.Answer.{Answer}
-use Rattle.fnc_journal.specs.declared.entry.Event.{Event}
+use Rattle.fnc_journal.specs.declared.event.Event.{Event}
 use Rattle.fnc_journal.specs.declared.entry.Req.{Req}
 use Rattle.fnc_journal.specs.History.{History}
 use Rattle.fnc_journal.specs.Missing.{has_any}
@@ -22,18 +22,18 @@ kept-replies P m [] h a keeps p = p
 kept-replies P m (r ∷ rs) h a keeps p = go r.event a.0.0 (kept-replies P m rs h a.1 keeps p)
   where
     go : (event : Event) → is_reply event ≡ true → P (rs ++ h) → P (record { moment = r.moment; event = event } ∷ (rs ++ h))
-    go (Event.Reply req answer) e rest = keeps r.moment req answer (rs ++ h) rest
-    go (Event.Device reg registration) e rest = cc
+    go (Event.Reply reply) e rest = keeps r.moment reply.req reply.answer (rs ++ h) rest
+    go (Event.Device device) e rest = cc
     go (Event.Gone reg) e rest = cc
-    go (Event.Level target index devices) e rest = cc
-    go (Event.LevelGone target index) e rest = cc
-    go (Event.Agent name description) e rest = cc
-    go (Event.Ask req lead client kind target total coin scope) e rest = cc
-    go (Event.Exit run exit listed) e rest = cc
+    go (Event.Level set) e rest = cc
+    go (Event.LevelGone cleared) e rest = cc
+    go (Event.Agent described) e rest = cc
+    go (Event.Ask ask) e rest = cc
+    go (Event.Exit ended) e rest = cc
     go Event.Pass e rest = cc
-    go (Event.Confirm client target) e rest = cc
-    go (Event.Refused line cause) e rest = cc
-    go (Event.Start run req slot reg kind attempt) e rest = cc
+    go (Event.Confirm confirmation) e rest = cc
+    go (Event.Refused refusal) e rest = cc
+    go (Event.Start start) e rest = cc
 
 module _ (m : ℕ) (rs h : History) (a : AreReplies m rs) where
   pub devices-replied : devices (rs ++ h) ≡ devices h

@@ -2,7 +2,7 @@
 use Rattle.std.proofs.Common.{ℕ, List, [], ◌∷◌, ◌++◌, Bool, true, false, ◌≡◌, ◌≤◌, ◌<◌, ◌+◌, ◌==◌, ◌&&◌, not, cond, refl, sym, ap, ◌∙◌, Option, Some, None, IsTrue, is_some, arith, length, ltb, ltb-true, eqb-true, false-eqb, length-append}
 use Rattle.std.specs.Prelude.{filter}
 use Rattle.fnc_journal.specs.declared.entry.Entry.{Entry}
-use Rattle.fnc_journal.specs.declared.entry.Event.{Event}
+use Rattle.fnc_journal.specs.declared.event.Event.{Event}
 use Rattle.fnc_journal.specs.History.{History}
 use Rattle.fnc_journal.specs.Found.{asks, replies, starts, started, has_exit, is_ask, is_reply, is_start}
 use Rattle.fnc_journal.specs.Prefix.{prefix}
@@ -14,10 +14,10 @@ use Rattle.fnc_journal.proofs.Running.{alive_runs-start, alive_runs-exit}
 use Rattle.fnc_desk.specs.Tallied.{IsBelow, exits, is_exit, tallied, tally_of}
 
 pub tally-more : (m : ℕ) (event : Event) (h : History) → tallied (tally_of h) event ≡ tally_of (record { moment = m; event = event } ∷ h)
-tally-more m (Event.Ask req lead client kind target total coin scope) h = refl
-tally-more m (Event.Reply req answer) h = refl
-tally-more m (Event.Start run req slot reg kind attempt) h = refl
-tally-more m (Event.Exit run exit listed) h = refl
+tally-more m (Event.Ask ask) h = refl
+tally-more m (Event.Reply reply) h = refl
+tally-more m (Event.Start start) h = refl
+tally-more m (Event.Exit ended) h = refl
 tally-more m _ h = refl
 
 one-more : (b : Bool) (n : ℕ) (e : Entry) (h : History) → n ≤ length h → cond b (n + 1) n ≤ length (e ∷ h)
@@ -75,23 +75,23 @@ once [] l r = record { known = λ k. absurd (omega arith); fresh = λ k. refl }
 once (e ∷ before) l r = go e.event (in_order-of e.moment e.event before l.0.ordered) (once before l.1 r)
   where
     go : (event : Event) → IsTrue (in_order event before) → Once r before → Once r (record { moment = e.moment; event = event } ∷ before)
-    go (Event.Start run req slot reg kind attempt) i ih = begun (run.0 == r) refl
+    go (Event.Start start) i ih = begun (start.run.0 == r) refl
       where
-        new : run.0 ≡ starts before
-        new = eqb-true run.0 (starts before) (and-left _ _ (and-left _ _ i))
+        new : start.run.0 ≡ starts before
+        new = eqb-true start.run.0 (starts before) (and-left _ _ (and-left _ _ i))
 
-        counted : count r (begun_runs before ++ record { run = run.0; reg = reg.0 } ∷ []) ≡ count r (begun_runs before) + bit (run.0 == r)
-        counted = count-append r (begun_runs before) (record { run = run.0; reg = reg.0 })
+        counted : count r (begun_runs before ++ record { run = start.run.0; reg = start.reg.0 } ∷ []) ≡ count r (begun_runs before) + bit (start.run.0 == r)
+        counted = count-append r (begun_runs before) (record { run = start.run.0; reg = start.reg.0 })
 
-        begun : (b : Bool) → (run.0 == r) ≡ b → Once r (record { moment = e.moment; event = Event.Start run req slot reg kind attempt } ∷ before)
+        begun : (b : Bool) → (start.run.0 == r) ≡ b → Once r (record { moment = e.moment; event = Event.Start start } ∷ before)
         begun true k =
-            let same : run.0 ≡ r = eqb-true run.0 r k in
+            let same : start.run.0 ≡ r = eqb-true start.run.0 r k in
             let none : count r (begun_runs before) ≡ 0 = ih.fresh (omega (arith, same, new)) in
-            let one : bit (run.0 == r) ≡ 1 = ap (bit) k in
+            let one : bit (start.run.0 == r) ≡ 1 = ap (bit) k in
             record { known = λ _. omega (arith, counted, none, one); fresh = λ (f : starts before + 1 ≤ r). absurd (omega (arith, same, new, f)) }
         begun false k =
-            let other : run.0 ≡ r → ⊥ = false-eqb run.0 r (sym k) in
-            let nil : bit (run.0 == r) ≡ 0 = ap (bit) k in
+            let other : start.run.0 ≡ r → ⊥ = false-eqb start.run.0 r (sym k) in
+            let nil : bit (start.run.0 == r) ≡ 0 = ap (bit) k in
             record {
               known = λ (f : r < starts before + 1). let less : r < starts before = omega (arith, f, new, other) in omega (arith, counted, ih.known less, nil);
               fresh = λ (f : starts before + 1 ≤ r). omega (arith, counted, ih.fresh (omega (arith, f)), nil);
@@ -150,13 +150,13 @@ alive-counted (e ∷ before) l = go e.event (in_order-of e.moment e.event before
     go : (event : Event) → IsTrue (in_order event before) → IsTrue (exit_of event before) → starts before ≡ length (alive_runs before) + exits before →
         starts (record { moment = e.moment; event = event } ∷ before)
         ≡ length (alive_runs (record { moment = e.moment; event = event } ∷ before)) + exits (record { moment = e.moment; event = event } ∷ before)
-    go (Event.Start run req slot reg kind attempt) i x ih =
-        let new : run.0 ≡ starts before = eqb-true run.0 (starts before) (and-left _ _ (and-left _ _ i)) in
-        let more = ap length (alive_runs-start before l.1 e.moment run req slot reg kind attempt new) ∙ length-append (alive_runs before) (record { run = run.0; reg = reg.0 } ∷ []) in
+    go (Event.Start start_) i x ih =
+        let new : start_.run.0 ≡ starts before = eqb-true start_.run.0 (starts before) (and-left _ _ (and-left _ _ i)) in
+        let more = ap length (alive_runs-start before l.1 e.moment start_.run start_.req start_.slot start_.reg start_.kind start_.attempt new) ∙ length-append (alive_runs before) (record { run = start_.run.0; reg = start_.reg.0 } ∷ []) in
         omega (arith, ih, more)
-    go (Event.Exit run exit listed) i x ih =
-        let fewer = ap length (alive_runs-exit before e.moment run exit listed) in
-        omega (arith, ih, fewer, alive-less before l.1 run.0 x)
+    go (Event.Exit ended) i x ih =
+        let fewer = ap length (alive_runs-exit before e.moment ended.run ended.exit ended.listed) in
+        omega (arith, ih, fewer, alive-less before l.1 ended.run.0 x)
     go _ i x ih = ih
 
 -- a prefix is no longer than its number says

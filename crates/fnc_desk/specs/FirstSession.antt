@@ -2,7 +2,7 @@
 -- Nothing was removed, described or confirmed, and no level was set.
 use Rattle.std.specs.Prelude.{ℕ, [], ◌∷◌, ◌≡◌}
 use Rattle.fnc_journal.specs.declared.definition.Definition.{Definition}
-use Rattle.fnc_journal.specs.declared.entry.Event.{Event}
+use Rattle.fnc_journal.specs.declared.event.Event.{Event}
 use Rattle.fnc_journal.specs.declared.entry.Kind.{Kind}
 use Rattle.fnc_journal.specs.declared.entry.Scope.{Scope}
 use Rattle.fnc_journal.specs.History.{History}
@@ -23,12 +23,12 @@ pub record IsPlainAsk (kind : Kind) (scope : Scope) (before : History) : Type 0 
 
 -- an entry of a first session, after those before it
 abbrev pub IsFirstEntry : Event → History → Type 0
-IsFirstEntry (Event.Device reg registration) before = IsPlainDevice reg.0 registration.definition before
-IsFirstEntry (Event.Ask req lead client kind target total coin scope) before = IsPlainAsk kind scope before
-IsFirstEntry (Event.Exit run exit listed) before = Unit {0}
-IsFirstEntry (Event.Refused line cause) before = Unit {0}
-IsFirstEntry (Event.Start run req slot reg kind attempt) before = Unit {0}
-IsFirstEntry (Event.Reply req answer) before = Unit {0}
+IsFirstEntry (Event.Device device) before = IsPlainDevice device.reg.0 device.registration.definition before
+IsFirstEntry (Event.Ask ask) before = IsPlainAsk ask.kind ask.scope before
+IsFirstEntry (Event.Exit ended) before = Unit {0}
+IsFirstEntry (Event.Refused refusal) before = Unit {0}
+IsFirstEntry (Event.Start start) before = Unit {0}
+IsFirstEntry (Event.Reply reply) before = Unit {0}
 IsFirstEntry _ before = ⊥
 
 -- the journal of a first session

@@ -4,7 +4,7 @@ use Rattle.std.specs.List.{list_any}
 use Rattle.fnc_journal.specs.declared.definition.Registration.{Registration}
 use Rattle.fnc_journal.specs.declared.cause.Cause.{Cause}
 use Rattle.fnc_journal.specs.declared.entry.Entry.{Entry}
-use Rattle.fnc_journal.specs.declared.entry.Event.{Event}
+use Rattle.fnc_journal.specs.declared.event.Event.{Event}
 use Rattle.fnc_journal.specs.declared.entry.Exit.{Exit}
 use Rattle.fnc_journal.specs.declared.entry.Kind.{Kind}
 use Rattle.fnc_journal.specs.declared.entry.Req.{Req}
@@ -29,7 +29,7 @@ line_number before = min (before + 1) (2 ^ 32 - 1)
 
 -- a line that is refused for a cause
 abbrev pub refused : ℕ → ℕ → Cause → Entry
-refused m number cause = record { moment = m; event = Event.Refused number cause }
+refused m number cause = record { moment = m; event = Event.Refused (record { line = number; cause = cause }) }
 
 -- a device without options, whose agent is `fence_model`
 abbrev pub plain_registration : List ℕ → Registration
@@ -41,11 +41,11 @@ has_operation target h = list_any (λ (o : Operation). bytes_eq target o.target)
 
 -- the first device
 abbrev pub device_input : ℕ → List ℕ → Entry
-device_input m name = record { moment = m; event = Event.Device (record { 0 = 0 }) (plain_registration name) }
+device_input m name = record { moment = m; event = Event.Device (record { reg = record { 0 = 0 }; registration = plain_registration name }) }
 
 -- a request for `off` that begins its own operation, with the default total
 abbrev pub ask_of : Req → List ℕ → List ℕ → Event
-ask_of req client target = Event.Ask req req client Kind.Off target 600_000 0 Scope.Nothing
+ask_of req client target = Event.Ask (record { req = req; lead = req; client = client; kind = Kind.Off; target = target; total = 600_000; coin = 0; scope = Scope.Nothing })
 
 -- a request for `off`, with the number that comes next
 abbrev pub request_input : ℕ → List ℕ → List ℕ → History → Entry
@@ -54,7 +54,7 @@ request_input m client target h = record { moment = m; event = ask_of (record { 
 -- the exit of a run that is alive; of any other run it is refused
 abbrev pub exit_input : ℕ → ℕ → ℕ → History → ℕ → Entry
 exit_input m run code h number =
-    if is_alive run h then record { moment = m; event = Event.Exit (record { 0 = run }) (Exit.Code code) false } else refused m number Cause.UnknownRun
+    if is_alive run h then record { moment = m; event = Event.Exit (record { run = record { 0 = run }; exit = Exit.Code code; listed = false }) } else refused m number Cause.UnknownRun
 
 -- A line is refused at the last moment where it isn't understood or its moment is past, where a device stands already,
 -- and where a request finds no device or an open operation for its target.
@@ -68,8 +68,8 @@ input_of Said.Other h last number = refused last number Cause.UnknownVerb
 
 -- a device and a request take memory
 abbrev pub takes_memory : Event → Bool
-takes_memory (Event.Device reg registration) = true
-takes_memory (Event.Ask req lead client kind target total coin scope) = true
+takes_memory (Event.Device device) = true
+takes_memory (Event.Ask ask) = true
 takes_memory _ = false
 
 -- the input, or in place of one that takes memory the refusal for want of it
@@ -85,6 +85,6 @@ Gives Happening.Again h last number e = ⊥
 -- how many entries an input needs: a request its own, its reply, and a start and an exit for each of two tries; an exit
 -- none, for its entries were owed since its request was accepted
 abbrev pub need_of : Event → ℕ
-need_of (Event.Ask req lead client kind target total coin scope) = 6
-need_of (Event.Exit run exit listed) = 0
+need_of (Event.Ask ask) = 6
+need_of (Event.Exit ended) = 0
 need_of _ = 1

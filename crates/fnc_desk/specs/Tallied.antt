@@ -1,13 +1,13 @@
 -- How many requests, replies, starts and exits a journal has.
 use Rattle.std.specs.Prelude.{ℕ, [], ◌∷◌, Bool, true, false, ◌+◌, ◌<◌, if◌then◌else◌}
-use Rattle.fnc_journal.specs.declared.entry.Event.{Event}
+use Rattle.fnc_journal.specs.declared.event.Event.{Event}
 use Rattle.fnc_journal.specs.History.{History}
 use Rattle.fnc_journal.specs.Found.{asks, replies, starts}
 use Rattle.fnc_desk.specs.declared.tally.Tally.{Tally}
 
 -- whether it is an exit
 abbrev pub is_exit : Event → Bool
-is_exit (Event.Exit run exit listed) = true
+is_exit (Event.Exit ended) = true
 is_exit _ = false
 
 -- how many exits there are
@@ -21,10 +21,10 @@ IsBelow n t = (t.asked < n) × (t.answered < n) × (t.started < n) × (t.ended <
 
 -- a tally with one more entry
 abbrev pub tallied : Tally → Event → Tally
-tallied t (Event.Ask req lead client kind target total coin scope) = record t { asked = t.asked + 1 }
-tallied t (Event.Reply req answer) = record t { answered = t.answered + 1 }
-tallied t (Event.Start run req slot reg kind attempt) = record t { started = t.started + 1 }
-tallied t (Event.Exit run exit listed) = record t { ended = t.ended + 1 }
+tallied t (Event.Ask ask) = record t { asked = t.asked + 1 }
+tallied t (Event.Reply reply) = record t { answered = t.answered + 1 }
+tallied t (Event.Start start) = record t { started = t.started + 1 }
+tallied t (Event.Exit ended_) = record t { ended = t.ended + 1 }
 tallied t _ = t
 
 -- the tally of a journal

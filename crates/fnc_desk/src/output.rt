@@ -13,7 +13,7 @@ ghost use Rattle.fnc_desk.specs.Searched as Searched;
 
 use crate::printing::{Piece, print_pieces};
 use crate::tally::{alive, counted};
-use fnc_journal::{Answer, Event, Journal, Reg, Req};
+use fnc_journal::{Answer, Event, Journal, Refusal, Reg, Reply, Req, Request, Start};
 use fnc_outside::{Sink, SinkFailed};
 
 /// The name of a registration, nothing where there is no such registration.
@@ -30,7 +30,7 @@ fn ask_target(event: &Event) -> &str
     ensures { result.now ≡ Searched.ask_target event.now }
 {
     match event {
-        Event::Ask { target, .. } => target.as_str(),
+        Event::Ask(Request { target, .. }) => target.as_str(),
         _ => "",
     }
 }
@@ -68,14 +68,14 @@ fn print_event<K: Sink>(journal: &Journal, event: &Event, sink: &mut K) -> Resul
     ensures cause { OnErr result (Rose (K.faults sink.old) (K.faults sink.new)) }
 {
     match event {
-        Event::Start {
+        Event::Start(Start {
             run,
             req,
             reg,
             kind,
             attempt,
             ..
-        } => print_pieces(
+        }) => print_pieces(
             &[
                 Piece::Word("start "),
                 Piece::Number(run.0),
@@ -91,7 +91,7 @@ fn print_event<K: Sink>(journal: &Journal, event: &Event, sink: &mut K) -> Resul
             ],
             sink,
         ),
-        Event::Reply { req, answer } => {
+        Event::Reply(Reply { req, answer }) => {
             let (first, second) = answer_words(*answer);
             print_pieces(
                 &[
@@ -105,7 +105,7 @@ fn print_event<K: Sink>(journal: &Journal, event: &Event, sink: &mut K) -> Resul
                 sink,
             )
         }
-        Event::Refused { line, cause } => print_pieces(
+        Event::Refused(Refusal { line, cause }) => print_pieces(
             &[
                 Piece::Word("refused "),
                 Piece::Number(*line),

@@ -24,19 +24,19 @@ impl Tally {
         ensures { result ≡ tallied self event.now }
     {
         match event {
-            Event::Ask { .. } => Tally {
+            Event::Ask(_) => Tally {
                 asked: self.asked + 1,
                 ..self
             },
-            Event::Reply { .. } => Tally {
+            Event::Reply(_) => Tally {
                 answered: self.answered + 1,
                 ..self
             },
-            Event::Start { .. } => Tally {
+            Event::Start(_) => Tally {
                 started: self.started + 1,
                 ..self
             },
-            Event::Exit { .. } => Tally {
+            Event::Exit(_) => Tally {
                 ended: self.ended + 1,
                 ..self
             },

@@ -1,6 +1,6 @@
 use crate::printing::{Piece, print_pieces};
 use crate::{print_end, print_from};
-use fnc_journal::{Cause, Entry, Event, Journal};
+use fnc_journal::{Cause, Entry, Event, Journal, Refusal};
 use fnc_outside::{MemorySink, SinkFailed, Torn};
 use std::test::Fail;
 
@@ -60,10 +60,10 @@ fn a_journal_is_printed(rt: HostRuntime) -> Result<(), Fail> {
     let mut journal = Journal::with_limit(rt.alloc(), 16_384)?;
     journal.push(Entry {
         moment: 0,
-        event: Event::Refused {
+        event: Event::Refused(Refusal {
             line: 1,
             cause: Cause::TooLong,
-        },
+        }),
     });
     journal.push(Entry {
         moment: 5,
@@ -71,10 +71,10 @@ fn a_journal_is_printed(rt: HostRuntime) -> Result<(), Fail> {
     });
     journal.push(Entry {
         moment: 5,
-        event: Event::Refused {
+        event: Event::Refused(Refusal {
             line: 30,
             cause: Cause::NotUtf8,
-        },
+        }),
     });
     let mut sink = MemorySink::new(rt.alloc(), 128, &[])?;
     assert_eq!(rt; print_from(&journal, 0, &mut sink), Ok(()));

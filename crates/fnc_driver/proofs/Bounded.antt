@@ -5,7 +5,7 @@ use Rattle.std.specs.List.{list_all}
 use Rattle.std.proofs.lemmas.Bool.{and_parts}
 use Rattle.fnc_journal.specs.declared.definition.Definition.{Definition}
 use Rattle.fnc_journal.specs.declared.entry.Entry.{Entry}
-use Rattle.fnc_journal.specs.declared.entry.Event.{Event}
+use Rattle.fnc_journal.specs.declared.event.Event.{Event}
 use Rattle.fnc_journal.specs.Bounds.{IsBounded, is_allowed, is_base, is_cap, is_carrier, is_host, is_host_pair, is_own_option, is_priority, is_time}
 use Rattle.fnc_journal_text.specs.Within as Within
 use Rattle.fnc_core.specs.Between.{IsBoundedEvent}
@@ -51,7 +51,7 @@ bounded d b =
     }
 
 event-bounded : (event : Event) → Within.is_event event ≡ true → IsBoundedEvent event
-event-bounded (Event.Device reg r) b = bounded r.definition (and_parts _ (Within.is_bounded r.definition) b).1
+event-bounded (Event.Device device) b = bounded device.registration.definition (and_parts _ (Within.is_bounded device.registration.definition) b).1
 event-bounded _ b = tt
 
 -- an entry that was read is within the core's bounds

@@ -2,7 +2,7 @@
 use Rattle.std.proofs.Common.{ℕ, List, true, ◌≡◌, leb-true}
 use Rattle.std.specs.Prelude.{◌==◌, nat_le}
 use Rattle.std.proofs.lemmas.Bool.{and_parts}
-use Rattle.fnc_journal.specs.declared.entry.Event.{Event}
+use Rattle.fnc_journal.specs.declared.event.Event.{Event}
 use Rattle.fnc_journal.specs.declared.entry.Kind.{Kind}
 use Rattle.fnc_journal.specs.declared.entry.Req.{Req}
 use Rattle.fnc_journal.specs.declared.entry.Scope.{Scope}
@@ -14,7 +14,7 @@ use Rattle.fnc_driver.specs.Askable.{IsAskable}
 
 -- a request that is in order may be asked
 pub askable : (req lead : Req) (client target : List ℕ) (kind : Kind) (total coin : ℕ) (scope : Scope) (h : History) →
-    in_order (Event.Ask req lead client kind target total coin scope) h ≡ true →
+    in_order (Event.Ask ask) h ≡ true →
     IsAskable (record { client = client; kind = kind; target = target; total = total; coin = coin }) scope h
 askable req lead client target kind total coin scope h p =
     let a4 = and_parts _ (is_in_place scope target h) p in

@@ -11,7 +11,7 @@ ghost use Rattle.fnc_driver.specs.Askable.{IsAskable};
 use crate::plans::Written;
 use crate::steps::Step;
 use fnc_core::{Ask, Change, Core};
-use fnc_journal::{Entry, Event, Plan, Scope};
+use fnc_journal::{Confirmation, Described, Ended, Entry, Event, LevelCleared, LevelSet, Plan, Refusal, Registered, Request, Scope};
 use fnc_journal_text::{print_one, read_entry};
 use fnc_judge::{is_in_order, is_plan};
 use fnc_outside::MemorySink;
@@ -30,20 +30,20 @@ fn change_of(core: &Core, event: Event) -> Option<Change>
     ensures bounded { IfSome result (λ c. IsBoundedEvent (event_of core.now.history c)) }
 {
     match event {
-        Event::Device { registration, .. } => Some(Change::Device(registration)),
+        Event::Device(Registered { registration, .. }) => Some(Change::Device(registration)),
         Event::Gone { reg } => Some(Change::Gone(reg)),
-        Event::Level {
+        Event::Level(LevelSet {
             target,
             index,
             devices,
-        } => Some(Change::Level {
+        }) => Some(Change::Level {
             target,
             index,
             devices,
         }),
-        Event::LevelGone { target, index } => Some(Change::LevelGone { target, index }),
-        Event::Agent { name, description } => Some(Change::Agent { name, description }),
-        Event::Confirm { client, target } => Some(Change::Confirm { client, target }),
+        Event::LevelGone(LevelCleared { target, index }) => Some(Change::LevelGone { target, index }),
+        Event::Agent(Described { name, description }) => Some(Change::Agent { name, description }),
+        Event::Confirm(Confirmation { client, target }) => Some(Change::Confirm { client, target }),
         _ => None,
     }
 }
@@ -58,8 +58,8 @@ fn enter(rt: &impl Abort, core: &mut Core, entry: Entry)
     assert!(rt; is_in_order(&entry.event, core.journal()));
     let entered = match entry.event {
         Event::Pass => core.pass(moment).is_ok(),
-        Event::Refused { line, cause } => core.refuse(moment, line, cause).is_ok(),
-        Event::Exit { run, exit, listed } => core.exit(moment, run, exit, listed).is_ok(),
+        Event::Refused(Refusal { line, cause }) => core.refuse(moment, line, cause).is_ok(),
+        Event::Exit(Ended { run, exit, listed }) => core.exit(moment, run, exit, listed).is_ok(),
         event => match change_of(core, event) {
             Some(change) => core.note(moment, change).is_ok(),
             None => false,
@@ -88,7 +88,7 @@ fn request_of(core: &Core, event: Event) -> Option<(Ask, Scope)>
     ensures { IfSome result (λ r. IsAskable r.0 r.1 core.now.history) }
 {
     match event {
-        Event::Ask {
+        Event::Ask(Request {
             client,
             kind,
             target,
@@ -96,7 +96,7 @@ fn request_of(core: &Core, event: Event) -> Option<(Ask, Scope)>
             coin,
             scope,
             ..
-        } => {
+        }) => {
             let ask = Ask {
                 client,
                 kind,

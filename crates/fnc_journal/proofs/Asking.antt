@@ -3,7 +3,7 @@ use Rattle.std.proofs.Common.{ℕ, List, [], ◌∷◌, ◌++◌, true, false, �
 use Rattle.std.specs.Prelude.{filter, filter_map, option_and_then}
 use Rattle.std.specs.List.{AllByRecursion}
 use Rattle.fnc_journal.specs.declared.entry.Entry.{Entry}
-use Rattle.fnc_journal.specs.declared.entry.Event.{Event}
+use Rattle.fnc_journal.specs.declared.event.Event.{Event}
 use Rattle.fnc_journal.specs.declared.entry.Kind.{Kind}
 use Rattle.fnc_journal.specs.declared.entry.Scope.{Scope}
 use Rattle.fnc_journal.specs.History.{History}
@@ -19,7 +19,7 @@ use Rattle.fnc_journal.proofs.Fresh.{unasked_unanswered, unasked_unrequested, op
 -- the entry of a request that begins its own operation
 abbrev pub ask_entry : ℕ → ℕ → List ℕ → Kind → List ℕ → ℕ → ℕ → Scope → Entry
 ask_entry m n client kind target total coin scope =
-    record { moment = m; event = Event.Ask (record { 0 = n }) (record { 0 = n }) client kind target total coin scope }
+    record { moment = m; event = Event.Ask (record { req = record { 0 = n }; lead = record { 0 = n }; client = client; kind = kind; target = target; total = total; coin = coin; scope = scope }) }
 
 -- what is asked, after what lay before
 abbrev pub asked_as : ℕ → ℕ → Kind → List ℕ → ℕ → ℕ → Scope → History → Asked

@@ -1,7 +1,7 @@
 -- How a session of lines keeps its journal Driven: each input is served in full before the next.
 use Rattle.std.proofs.Common.{ℕ, List, [], ◌∷◌, ◌++◌, Bool, true, false, ◌≡◌, ◌<◌, refl, ap, ◌∙◌, Option, Some, None, IsTrue, arith, ◌==◌, ◌&&◌, cond, eq-eqb, eqb-true, nat_lt, lt-ltb, le-ltb}
 use Rattle.fnc_journal.specs.declared.entry.Entry.{Entry}
-use Rattle.fnc_journal.specs.declared.entry.Event.{Event}
+use Rattle.fnc_journal.specs.declared.event.Event.{Event}
 use Rattle.fnc_journal.specs.History.{History}
 use Rattle.fnc_journal.specs.Found.{is_input, is_reply}
 use Rattle.fnc_journal.specs.Driven.{last_input, before_advance, advances, is_at_once, are_all_at, are_one, is_advance, rests, rests_after, rests_before}
@@ -9,21 +9,21 @@ use Rattle.fnc_journal.specs.Served.{AtRest, AreReplies}
 
 -- a reply is no input
 pub reply-no_input : (event : Event) → is_reply event ≡ true → is_input event ≡ false
-reply-no_input (Event.Reply req answer) q = refl
-reply-no_input (Event.Device reg registration) q = cc
+reply-no_input (Event.Reply reply) q = refl
+reply-no_input (Event.Device device) q = cc
 reply-no_input (Event.Gone reg) q = cc
-reply-no_input (Event.Level target index devices) q = cc
-reply-no_input (Event.LevelGone target index) q = cc
-reply-no_input (Event.Agent name description) q = cc
-reply-no_input (Event.Ask req lead client kind target total coin scope) q = cc
-reply-no_input (Event.Exit run exit listed) q = cc
+reply-no_input (Event.Level set) q = cc
+reply-no_input (Event.LevelGone cleared) q = cc
+reply-no_input (Event.Agent described) q = cc
+reply-no_input (Event.Ask ask) q = cc
+reply-no_input (Event.Exit ended) q = cc
 reply-no_input Event.Pass q = cc
-reply-no_input (Event.Confirm client target) q = cc
-reply-no_input (Event.Refused line cause) q = cc
-reply-no_input (Event.Start run req slot reg kind attempt) q = cc
+reply-no_input (Event.Confirm confirmation) q = cc
+reply-no_input (Event.Refused refusal) q = cc
+reply-no_input (Event.Start start) q = cc
 
 input-no_reply : (event : Event) → is_input event ≡ true → is_reply event ≡ false
-input-no_reply (Event.Reply req answer) q = cc
+input-no_reply (Event.Reply reply) q = cc
 input-no_reply _ q = refl
 
 -- what came at once is no advance

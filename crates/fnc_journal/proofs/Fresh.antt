@@ -2,7 +2,7 @@
 use Rattle.std.proofs.Common.{ℕ, List, [], ◌∷◌, Bool, true, false, ◌≡◌, ◌≤◌, ◌<◌, ◌+◌, refl, Option, Some, None, IsTrue, arith, ◌==◌, ◌||◌, ◌&&◌, cond, eqb-true, ne_eqb, is_some, length}
 use Rattle.std.specs.Prelude.{option_map, unwrap_or, filter, filter_map}
 use Rattle.std.specs.List.{AllByRecursion, cons_option}
-use Rattle.fnc_journal.specs.declared.entry.Event.{Event}
+use Rattle.fnc_journal.specs.declared.event.Event.{Event}
 use Rattle.fnc_journal.specs.declared.entry.Kind.{Kind}
 use Rattle.fnc_journal.specs.History.{History}
 use Rattle.fnc_journal.specs.Missing.{or_here, append_some}
@@ -31,9 +31,9 @@ unasked_unanswered (e ∷ before) l n le = go e.event (in_order-of e.moment e.ev
   where
     go : (event : Event) → IsTrue (in_order event before) → asks (record { moment = e.moment; event = event } ∷ before) ≤ n →
         (asks before ≤ n → is_answered n before ≡ false) → (is_reply_to n event || is_answered n before) ≡ false
-    go (Event.Ask req lead client kind target total coin scope) i k ih = let more : asks before + 1 ≤ n = k in ih (omega arith)
-    go (Event.Reply req answer) i k ih =
-        let other : (n == req.0) ≡ false = ne_eqb n req.0 (λ g. none_some (asked req.0 before) (fresh_ask before l.1 req.0 (omega (arith, g))) i) in
+    go (Event.Ask ask) i k ih = let more : asks before + 1 ≤ n = k in ih (omega arith)
+    go (Event.Reply reply) i k ih =
+        let other : (n == reply.req.0) ≡ false = ne_eqb n reply.req.0 (λ g. none_some (asked reply.req.0 before) (fresh_ask before l.1 reply.req.0 (omega (arith, g))) i) in
         rw (other, ih k) refl
     go _ i k ih = ih k
 
@@ -44,9 +44,9 @@ fresh_start (e ∷ before) l n le = go e.event (in_order-of e.moment e.event bef
   where
     go : (event : Event) → IsTrue (in_order event before) → starts (record { moment = e.moment; event = event } ∷ before) ≤ n →
         (starts before ≤ n → started n before ≡ None) → or_here (started n before) (started_here n event) ≡ None
-    go (Event.Start run req slot reg kind attempt) i k ih =
+    go (Event.Start start) i k ih =
         let more : starts before + 1 ≤ n = k in
-        let other : (n == run.0) ≡ false = unequal n run.0 (starts before) (and-left _ _ (and-left _ _ i)) more in
+        let other : (n == start.run.0) ≡ false = unequal n start.run.0 (starts before) (and-left _ _ (and-left _ _ i)) more in
         rw (other, ih (omega arith)) refl
     go _ i k ih = rw (ih k) refl
 
@@ -57,9 +57,9 @@ unstarted_unended (e ∷ before) l n le = go e.event (in_order-of e.moment e.eve
   where
     go : (event : Event) → IsTrue (in_order event before) → starts (record { moment = e.moment; event = event } ∷ before) ≤ n →
         (starts before ≤ n → has_exit n before ≡ false) → (is_exit_of n event || has_exit n before) ≡ false
-    go (Event.Start run req slot reg kind attempt) i k ih = let more : starts before + 1 ≤ n = k in ih (omega arith)
-    go (Event.Exit run exit listed) i k ih =
-        let other : (n == run.0) ≡ false = ne_eqb n run.0 (λ g. none_some (started run.0 before) (fresh_start before l.1 run.0 (omega (arith, g))) i) in
+    go (Event.Start start) i k ih = let more : starts before + 1 ≤ n = k in ih (omega arith)
+    go (Event.Exit ended) i k ih =
+        let other : (n == ended.run.0) ≡ false = ne_eqb n ended.run.0 (λ g. none_some (started ended.run.0 before) (fresh_start before l.1 ended.run.0 (omega (arith, g))) i) in
         rw (other, ih k) refl
     go _ i k ih = ih k
 
@@ -70,16 +70,16 @@ operations-small (e ∷ before) l = go e.event (in_order-of e.moment e.event bef
   where
     go : (event : Event) → IsTrue (in_order event before) → AllByRecursion (λ o. o < asks before) (operations before) →
         AllByRecursion (λ o. o < asks (record { moment = e.moment; event = event } ∷ before)) (append_some (operations before) (operation_here event))
-    go (Event.Ask req lead client kind target total coin scope) i ih = ask (req.0 == lead.0)
+    go (Event.Ask ask_) i ih = ask (ask_.req.0 == ask_.lead.0)
       where
-        n : req.0 ≡ asks before
-        n = eqb-true req.0 (asks before) (and-left _ _ (and-left _ _ (and-left _ _ (and-left _ _ i))))
+        n : ask_.req.0 ≡ asks before
+        n = eqb-true ask_.req.0 (asks before) (and-left _ _ (and-left _ _ (and-left _ _ (and-left _ _ i))))
 
         more : AllByRecursion (λ o. o < asks before + 1) (operations before)
         more = each-map _ _ (operations before) (λ o k. omega arith) ih
 
-        ask : (b : Bool) → AllByRecursion (λ o. o < asks before + 1) (append_some (operations before) (cond b (Some req.0) None))
-        ask true = each-append _ (operations before) req.0 more (omega (arith, n))
+        ask : (b : Bool) → AllByRecursion (λ o. o < asks before + 1) (append_some (operations before) (cond b (Some ask_.req.0) None))
+        ask true = each-append _ (operations before) ask_.req.0 more (omega (arith, n))
         ask false = more
     go _ i ih = ih
 
@@ -115,11 +115,11 @@ unasked_unrequested (e ∷ before) l n le = go e.event (in_order-of e.moment e.e
     go : (event : Event) → IsTrue (in_order event before) → IsTrue (prompt (record { moment = e.moment; event = event }) before) →
         asks (record { moment = e.moment; event = event } ∷ before) ≤ n → (asks before ≤ n → requests n before ≡ []) →
         append_some (requests n before) (request_here n event) ≡ []
-    go (Event.Ask req lead client kind target total coin scope) i p k ih =
+    go (Event.Ask ask) i p k ih =
         let more : asks before + 1 ≤ n = k in
-        let new : req.0 ≡ asks before = eqb-true req.0 (asks before) (and-left _ _ (and-left _ _ (and-left _ _ (and-left _ _ i)))) in
-        let small : lead.0 < asks before + 1 = lead-small e.moment lead.0 req.0 before kind target l.1 new (eqb-true lead.0 (unwrap_or (option_map (λ (o : Operation). o.req) (joined before e.moment kind target)) req.0) (and-right (settled before e.moment && settled_since before) _ p)) in
-        let other : (n == lead.0) ≡ false = ne_eqb n lead.0 (λ g. omega (arith, small, more, g)) in
+        let new : ask.req.0 ≡ asks before = eqb-true ask.req.0 (asks before) (and-left _ _ (and-left _ _ (and-left _ _ (and-left _ _ i)))) in
+        let small : ask.lead.0 < asks before + 1 = lead-small e.moment ask.lead.0 ask.req.0 before ask.kind ask.target l.1 new (eqb-true ask.lead.0 (unwrap_or (option_map (λ (o : Operation). o.req) (joined before e.moment ask.kind ask.target)) ask.req.0) (and-right (settled before e.moment && settled_since before) _ p)) in
+        let other : (n == ask.lead.0) ≡ false = ne_eqb n ask.lead.0 (λ g. omega (arith, small, more, g)) in
         rw other (ih (omega arith))
     go _ i p k ih = ih k
 
@@ -133,15 +133,15 @@ unasked_idle (e ∷ before) l o le = go e.event (in_order-of e.moment e.event be
   where
     go : (event : Event) → IsTrue (in_order event before) → asks (record { moment = e.moment; event = event } ∷ before) ≤ o → (asks before ≤ o → acts o before ≡ []) →
         cons_act (act_here o e.moment (acts o before) event) (acts o before) ≡ []
-    go (Event.Start run req slot reg kind attempt) i k ih = whose (o == req.0) refl
+    go (Event.Start start) i k ih = whose (o == start.req.0) refl
       where
-        whose : (b : Bool) → (o == req.0) ≡ b → cons_act (cond b (Some (Act.Begun e.moment run.0 slot)) None) (acts o before) ≡ []
+        whose : (b : Bool) → (o == start.req.0) ≡ b → cons_act (cond b (Some (Act.Begun e.moment start.run.0 start.slot)) None) (acts o before) ≡ []
         whose true q =
-            let same : o ≡ req.0 = eqb-true o req.0 q in
-            absurd (none_some (operation req.0 before) (operation-none req.0 before (fresh_ask before l.1 req.0 (omega (arith, same, k)))) (and-right _ _ (and-left _ _ i)))
+            let same : o ≡ start.req.0 = eqb-true o start.req.0 q in
+            absurd (none_some (operation start.req.0 before) (operation-none start.req.0 before (fresh_ask before l.1 start.req.0 (omega (arith, same, k)))) (and-right _ _ (and-left _ _ i)))
         whose false q = ih k
-    go (Event.Exit run exit listed) i k ih = rw (ih k) refl
-    go (Event.Ask req lead client kind target total coin scope) i k ih = let more : asks before + 1 ≤ o = k in ih (omega arith)
+    go (Event.Exit ended) i k ih = rw (ih k) refl
+    go (Event.Ask ask) i k ih = let more : asks before + 1 ≤ o = k in ih (omega arith)
     go _ i k ih = ih k
 
 -- no more are counted than there are entries

@@ -2,7 +2,7 @@
 use Rattle.std.proofs.Common.{ℕ, List, [], ◌∷◌, ◌++◌, Bool, true, false, ◌≡◌, refl, ap, ◌∙◌, arith, ◌==◌, ◌||◌, ◌&&◌, not, cond, is_some, sym, eqb-true, Option, Some, None}
 use Rattle.std.specs.Prelude.{filter}
 use Rattle.std.specs.List.{list_any}
-use Rattle.fnc_journal.specs.declared.entry.Event.{Event}
+use Rattle.fnc_journal.specs.declared.event.Event.{Event}
 use Rattle.fnc_journal.specs.declared.entry.Exit.{Exit}
 use Rattle.fnc_journal.specs.declared.entry.Kind.{Kind}
 use Rattle.fnc_journal.specs.declared.entry.Reg.{Reg}
@@ -19,14 +19,14 @@ use Rattle.fnc_journal.proofs.Fresh.{unstarted_unended}
 
 -- a start makes its run alive
 pub alive_runs-start : (h : History) → Lawful h → (m : ℕ) (run : Run) (req : Req) (slot : Slot) (reg : Reg) (kind : Kind) (attempt : ℕ) → run.0 ≡ starts h →
-    alive_runs (record { moment = m; event = Event.Start run req slot reg kind attempt } ∷ h) ≡ alive_runs h ++ record { run = run.0; reg = reg.0 } ∷ []
+    alive_runs (record { moment = m; event = Event.Start (record { run = run; req = req; slot = slot; reg = reg; kind = kind; attempt = attempt }) } ∷ h) ≡ alive_runs h ++ record { run = run.0; reg = reg.0 } ∷ []
 alive_runs-start h l m run req slot reg kind attempt e =
     filter-append (λ b. not (has_exit b.run h)) (begun_runs h) (record { run = run.0; reg = reg.0 })
     (ap not (unstarted_unended h l run.0 (omega (arith, e))))
 
 -- an exit takes its run away
 pub alive_runs-exit : (h : History) (m : ℕ) (run : Run) (exit : Exit) (listed : Bool) →
-    alive_runs (record { moment = m; event = Event.Exit run exit listed } ∷ h) ≡ filter (λ (b : Begun). not (b.run == run.0)) (alive_runs h)
+    alive_runs (record { moment = m; event = Event.Exit (record { run = run; exit = exit; listed = listed }) } ∷ h) ≡ filter (λ (b : Begun). not (b.run == run.0)) (alive_runs h)
 alive_runs-exit h m run exit listed = filter-or (λ b. b.run == run.0) (λ b. has_exit b.run h) (begun_runs h)
 
 -- a run is alive exactly where it is among the runs that are alive
@@ -53,11 +53,11 @@ begun-started n (e ∷ before) = go e.event (begun-started n before)
 
     go : (event : Event) → list_any (λ (b : Begun). n == b.run) (begun_runs before) ≡ is_some (started n before) →
         list_any (λ (b : Begun). n == b.run) (append_some (begun_runs before) (begun_here event)) ≡ is_some (or_here (started n before) (started_here n event))
-    go (Event.Start run req slot reg kind attempt) ih =
-        any-append (begun_runs before) (record { run = run.0; reg = reg.0 })
-        ∙ ap (λ b. b || (n == run.0)) ih
-        ∙ or-some (is_some (started n before)) (n == run.0) (record { req = req.0; slot = slot; reg = reg.0; kind = kind })
-        ∙ sym (some_here (started n before) (cond (n == run.0) (Some (record { req = req.0; slot = slot; reg = reg.0; kind = kind })) None))
+    go (Event.Start start) ih =
+        any-append (begun_runs before) (record { run = start.run.0; reg = start.reg.0 })
+        ∙ ap (λ b. b || (n == start.run.0)) ih
+        ∙ or-some (is_some (started n before)) (n == start.run.0) (record { req = start.req.0; slot = start.slot; reg = start.reg.0; kind = start.kind })
+        ∙ sym (some_here (started n before) (cond (n == start.run.0) (Some (record { req = start.req.0; slot = start.slot; reg = start.reg.0; kind = start.kind })) None))
     go _ ih = ih ∙ or-none (is_some (started n before)) ∙ sym (some_here (started n before) None)
 
 any-kept : (n : ℕ) (h : History) (xs : List Begun) →

@@ -1,7 +1,7 @@
 -- In a lawful journal each run is of one operation.
 use Rattle.std.proofs.Common.{ℕ, [], ◌∷◌, Bool, true, false, ◌≡◌, refl, ap, sym, ◌∙◌, Option, Some, None, IsTrue, arith, ◌==◌, cond, eqb-true, false-eqb}
 use Rattle.std.specs.Prelude.{option_map}
-use Rattle.fnc_journal.specs.declared.entry.Event.{Event}
+use Rattle.fnc_journal.specs.declared.event.Event.{Event}
 use Rattle.fnc_journal.specs.declared.entry.Slot.{Slot}
 use Rattle.fnc_journal.specs.History.{History}
 use Rattle.fnc_journal.specs.Missing.{or_here}
@@ -34,30 +34,30 @@ runner-of (e ∷ before) l o n s f = go e.event (in_order-of e.moment e.event be
     go : (event : Event) → IsTrue (in_order event before) → slot_of_run n (cons_act (act_here o e.moment (acts o before) event) (acts o before)) ≡ Some s →
         ((w : Slot) → slot_of_run n (acts o before) ≡ Some w → runner n before ≡ Some o) →
         option_map (λ (s : Started). s.req) (or_here (started n before) (started_here n event)) ≡ Some o
-    go (Event.Start run req slot reg kind attempt) i f ih = whose (o == req.0) refl f
+    go (Event.Start start) i f ih = whose (o == start.req.0) refl f
       where
-        new : run.0 ≡ starts before
-        new = eqb-true run.0 (starts before) (and-left _ _ (and-left _ _ i))
+        new : start.run.0 ≡ starts before
+        new = eqb-true start.run.0 (starts before) (and-left _ _ (and-left _ _ i))
 
-        earlier : (x : Option Slot) → slot_of_run n (acts o before) ≡ x → or_here x (cond (n == run.0) (Some slot) None) ≡ Some s → (o == req.0) ≡ true →
-            option_map (λ (s : Started). s.req) (or_here (started n before) (cond (n == run.0) (Some (record { req = req.0; slot = slot; reg = reg.0; kind = kind })) None)) ≡ Some o
-        earlier (Some w) k g q = runner-more (started n before) (cond (n == run.0) (Some (record { req = req.0; slot = slot; reg = reg.0; kind = kind })) None) o (ih w k)
-        earlier None k g q = this (n == run.0) refl g
+        earlier : (x : Option Slot) → slot_of_run n (acts o before) ≡ x → or_here x (cond (n == start.run.0) (Some start.slot) None) ≡ Some s → (o == start.req.0) ≡ true →
+            option_map (λ (s : Started). s.req) (or_here (started n before) (cond (n == start.run.0) (Some (record { req = start.req.0; slot = start.slot; reg = start.reg.0; kind = start.kind })) None)) ≡ Some o
+        earlier (Some w) k g q = runner-more (started n before) (cond (n == start.run.0) (Some (record { req = start.req.0; slot = start.slot; reg = start.reg.0; kind = start.kind })) None) o (ih w k)
+        earlier None k g q = this (n == start.run.0) refl g
           where
-            this : (b : Bool) → (n == run.0) ≡ b → or_here None (cond b (Some slot) None) ≡ Some s →
-                option_map (λ (s : Started). s.req) (or_here (started n before) (cond b (Some (record { req = req.0; slot = slot; reg = reg.0; kind = kind })) None)) ≡ Some o
+            this : (b : Bool) → (n == start.run.0) ≡ b → or_here None (cond b (Some start.slot) None) ≡ Some s →
+                option_map (λ (s : Started). s.req) (or_here (started n before) (cond b (Some (record { req = start.req.0; slot = start.slot; reg = start.reg.0; kind = start.kind })) None)) ≡ Some o
             this true t g =
-                let same : n ≡ run.0 = eqb-true n run.0 t in
-                runner-new (started n before) (Some (record { req = req.0; slot = slot; reg = reg.0; kind = kind })) o (fresh_start before l.1 n (omega (arith, same, new))) (ap Some (sym (eqb-true o req.0 q)))
+                let same : n ≡ start.run.0 = eqb-true n start.run.0 t in
+                runner-new (started n before) (Some (record { req = start.req.0; slot = start.slot; reg = start.reg.0; kind = start.kind })) o (fresh_start before l.1 n (omega (arith, same, new))) (ap Some (sym (eqb-true o start.req.0 q)))
             this false t g = cc
 
-        whose : (b : Bool) → (o == req.0) ≡ b → slot_of_run n (cons_act (cond b (Some (Act.Begun e.moment run.0 slot)) None) (acts o before)) ≡ Some s →
-            option_map (λ (s : Started). s.req) (or_here (started n before) (cond (n == run.0) (Some (record { req = req.0; slot = slot; reg = reg.0; kind = kind })) None)) ≡ Some o
+        whose : (b : Bool) → (o == start.req.0) ≡ b → slot_of_run n (cons_act (cond b (Some (Act.Begun e.moment start.run.0 start.slot)) None) (acts o before)) ≡ Some s →
+            option_map (λ (s : Started). s.req) (or_here (started n before) (cond (n == start.run.0) (Some (record { req = start.req.0; slot = start.slot; reg = start.reg.0; kind = start.kind })) None)) ≡ Some o
         whose true q g = earlier (slot_of_run n (acts o before)) refl g q
-        whose false q g = runner-more (started n before) (cond (n == run.0) (Some (record { req = req.0; slot = slot; reg = reg.0; kind = kind })) None) o (ih s g)
-    go (Event.Exit run exit listed) i f ih = runner-more (started n before) None o (ended (slot_of_run run.0 (acts o before)) f)
+        whose false q g = runner-more (started n before) (cond (n == start.run.0) (Some (record { req = start.req.0; slot = start.slot; reg = start.reg.0; kind = start.kind })) None) o (ih s g)
+    go (Event.Exit ended_) i f ih = runner-more (started n before) None o (ended (slot_of_run ended_.run.0 (acts o before)) f)
       where
-        ended : (x : Option Slot) → slot_of_run n (cons_act (option_map (λ w. Act.Ended e.moment w exit listed) x) (acts o before)) ≡ Some s → runner n before ≡ Some o
+        ended : (x : Option Slot) → slot_of_run n (cons_act (option_map (λ w. Act.Ended e.moment w ended_.exit ended_.listed) x) (acts o before)) ≡ Some s → runner n before ≡ Some o
         ended None g = ih s g
         ended (Some w) g = ih s g
     go _ i f ih = runner-more (started n before) None o (ih s f)

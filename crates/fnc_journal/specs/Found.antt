@@ -3,7 +3,7 @@
 use Rattle.std.specs.Prelude.{ℕ, List, [], ◌∷◌, Bool, true, false, length, ◌==◌, if◌then◌else◌, Option, Some, None, ◌+◌}
 use Rattle.std.specs.List.{list_any}
 use Rattle.fnc_journal.specs.declared.entry.Entry.{Entry}
-use Rattle.fnc_journal.specs.declared.entry.Event.{Event}
+use Rattle.fnc_journal.specs.declared.event.Event.{Event}
 use Rattle.fnc_journal.specs.declared.entry.Kind.{Kind}
 use Rattle.fnc_journal.specs.declared.entry.Scope.{Scope}
 use Rattle.fnc_journal.specs.declared.entry.Slot.{Slot}
@@ -13,33 +13,33 @@ use Rattle.fnc_journal.specs.Missing.{or_here}
 
 -- whether it registers a device
 abbrev pub is_device : Event → Bool
-is_device (Event.Device reg registration) = true
+is_device (Event.Device device) = true
 is_device _ = false
 
 -- whether it is a request
 abbrev pub is_ask : Event → Bool
-is_ask (Event.Ask req lead client kind target total coin scope) = true
+is_ask (Event.Ask ask) = true
 is_ask _ = false
 
 -- whether it is the request of a number
 abbrev pub is_ask_of : ℕ → Event → Bool
-is_ask_of r (Event.Ask req lead client kind target total coin scope) = r == req.0
+is_ask_of r (Event.Ask ask) = r == ask.req.0
 is_ask_of r _ = false
 
 -- whether it starts a run
 abbrev pub is_start : Event → Bool
-is_start (Event.Start run req slot reg kind attempt) = true
+is_start (Event.Start start) = true
 is_start _ = false
 
 -- whether it is a reply
 abbrev pub is_reply : Event → Bool
-is_reply (Event.Reply req answer) = true
+is_reply (Event.Reply reply) = true
 is_reply _ = false
 
 -- an input came to the fencer; a start or a reply is what the fencer did
 abbrev pub is_input : Event → Bool
-is_input (Event.Start run req slot reg kind attempt) = false
-is_input (Event.Reply req answer) = false
+is_input (Event.Start start) = false
+is_input (Event.Reply reply) = false
 is_input _ = true
 
 -- how many registrations there are, which is the number of the next one; so with requests and runs
@@ -69,7 +69,7 @@ first_found f (e ∷ before) = or_here (first_found f before) (f e)
 
 -- what an entry says of the registration of a number
 abbrev pub registration_here : ℕ → Event → Option Registration
-registration_here n (Event.Device reg registration) = if n == reg.0 then Some registration else None
+registration_here n (Event.Device device) = if n == device.reg.0 then Some device.registration else None
 registration_here n _ = None
 
 -- what the registration of a number was made with
@@ -89,9 +89,9 @@ pub record Asked : Type 0 where
 
 -- what an entry says of the request of a number
 abbrev pub asked_here : ℕ → ℕ → History → Event → Option Asked
-asked_here r moment before (Event.Ask req lead client kind target total coin scope) =
-    if r == req.0
-    then Some (record { moment = moment; lead = lead.0; kind = kind; target = target; total = total; coin = coin; scope = scope; before = before })
+asked_here r moment before (Event.Ask ask) =
+    if r == ask.req.0
+    then Some (record { moment = moment; lead = ask.lead.0; kind = ask.kind; target = ask.target; total = ask.total; coin = ask.coin; scope = ask.scope; before = before })
     else None
 asked_here r moment before _ = None
 
@@ -109,8 +109,8 @@ pub record Started : Type 0 where
 
 -- what an entry says of the start of a run
 abbrev pub started_here : ℕ → Event → Option Started
-started_here n (Event.Start run req slot reg kind attempt) =
-    if n == run.0 then Some (record { req = req.0; slot = slot; reg = reg.0; kind = kind }) else None
+started_here n (Event.Start start) =
+    if n == start.run.0 then Some (record { req = start.req.0; slot = start.slot; reg = start.reg.0; kind = start.kind }) else None
 started_here n _ = None
 
 -- the start of a run of a number
@@ -119,7 +119,7 @@ started n h = first_found (λ e. started_here n e.event) h
 
 -- whether it is the exit of a run
 abbrev pub is_exit_of : ℕ → Event → Bool
-is_exit_of n (Event.Exit run exit listed) = n == run.0
+is_exit_of n (Event.Exit ended) = n == ended.run.0
 is_exit_of n _ = false
 
 -- whether a run has had its exit
@@ -128,7 +128,7 @@ has_exit n h = list_any (λ e. is_exit_of n e.event) h
 
 -- whether it is a reply to a request
 abbrev pub is_reply_to : ℕ → Event → Bool
-is_reply_to r (Event.Reply req answer) = r == req.0
+is_reply_to r (Event.Reply reply) = r == reply.req.0
 is_reply_to r _ = false
 
 -- whether a request has had its reply

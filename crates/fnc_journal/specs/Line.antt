@@ -3,7 +3,7 @@
 use Rattle.std.specs.Prelude.{ℕ, List, [], ◌∷◌, ◌++◌, Bool, ◌==◌, ◌||◌, ◌&&◌, ◌/◌, ◌%◌, ◌+◌, if◌then◌else◌, nat_le, nat_lt, length, codes, decimal, option_map, unwrap_or}
 use Rattle.std.specs.List.{flat_map}
 use Rattle.fnc_journal.specs.declared.entry.Answer.{Answer}
-use Rattle.fnc_journal.specs.declared.entry.Event.{Event}
+use Rattle.fnc_journal.specs.declared.event.Event.{Event}
 use Rattle.fnc_journal.specs.declared.entry.Kind.{Kind}
 use Rattle.fnc_journal.specs.declared.definition.Registration.{Registration}
 use Rattle.fnc_journal.specs.History.{History}
@@ -61,9 +61,9 @@ start_line run device kind target attempt =
 
 -- the line of an entry after those before it: of a start, a reply and a refusal; no byte of any other
 abbrev pub line_of : Event → History → List ℕ
-line_of (Event.Start run req slot reg kind attempt) before = start_line run.0 (name_of reg.0 before) kind (target_of req.0 before) attempt
-line_of (Event.Reply req answer) before = codes "answer " ++ decimal req.0 ++ codes " " ++ answer_words answer ++ codes "\n"
-line_of (Event.Refused line cause) before = codes "refused " ++ decimal line ++ codes " " ++ word_of cause ++ codes "\n"
+line_of (Event.Start start) before = start_line start.run.0 (name_of start.reg.0 before) start.kind (target_of start.req.0 before) start.attempt
+line_of (Event.Reply reply) before = codes "reply.answer " ++ decimal reply.req.0 ++ codes " " ++ answer_words reply.answer ++ codes "\n"
+line_of (Event.Refused refusal) before = codes "refused " ++ decimal refusal.line ++ codes " " ++ word_of refusal.cause ++ codes "\n"
 line_of _ before = []
 
 -- the lines of the entries in order: the text of a journal in form Answers

@@ -4,9 +4,7 @@ ghost use Rattle.std.specs.Prelude.{◌≡◌};
 ghost use Rattle.fnc_journal.specs.Line as Line;
 ghost use Rattle.fnc_journal.specs.Same as Same;
 
-use crate::cause::Cause;
-use crate::definition::{Description, Registration};
-use crate::names::Names;
+use crate::event::Event;
 use crate::text::Text;
 
 /// The number of a registration, from 0.
@@ -120,67 +118,6 @@ pub enum Scope {
     Nothing,
     Name,
     Pattern(u32),
-}
-
-/// What happened. A start and a reply are outputs, all others are inputs.
-#[derive(Debug, Drop)]
-pub enum Event {
-    Device {
-        reg: Reg,
-        registration: Registration,
-    },
-    Gone {
-        reg: Reg,
-    },
-    Level {
-        target: LevelTarget,
-        index: u8,
-        devices: Names,
-    },
-    LevelGone {
-        target: LevelTarget,
-        index: u8,
-    },
-    Agent {
-        name: Text,
-        description: Description,
-    },
-    Ask {
-        req: Req,
-        lead: Req,
-        client: Text,
-        kind: Kind,
-        target: Text,
-        total: u64,
-        coin: u64,
-        scope: Scope,
-    },
-    Exit {
-        run: Run,
-        exit: Exit,
-        listed: bool,
-    },
-    Pass,
-    Confirm {
-        client: Text,
-        target: Text,
-    },
-    Refused {
-        line: u32,
-        cause: Cause,
-    },
-    Start {
-        run: Run,
-        req: Req,
-        slot: Slot,
-        reg: Reg,
-        kind: Kind,
-        attempt: u8,
-    },
-    Reply {
-        req: Req,
-        answer: Answer,
-    },
 }
 
 /// An entry of the journal.

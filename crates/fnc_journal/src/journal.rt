@@ -1,7 +1,8 @@
 // The journal: a list of entries that grows at its end.
 
 use crate::definition::Registration;
-use crate::entry::{Entry, Event, Reg, Req};
+use crate::entry::{Entry, Reg, Req};
+use crate::event::Event;
 use crate::outcome::NoMemory;
 use std::alloc::Global;
 use std::marker::Model;
@@ -100,12 +101,9 @@ fn registration_here(event: &Event, reg: Reg) -> Option<&Registration>
     ensures { option_copied result ≡ Found.registration_here reg.0 event.now }
 {
     match event {
-        Event::Device {
-            reg: r,
-            registration,
-        } => {
-            if reg.0 == r.0 {
-                Some(registration)
+        Event::Device(device) => {
+            if reg.0 == device.reg.0 {
+                Some(device.registration.get())
             } else {
                 None
             }
@@ -129,7 +127,7 @@ fn is_ask_of(event: &Event, req: Req) -> bool
     ensures { result ≡ Found.is_ask_of req.0 event.now }
 {
     match event {
-        Event::Ask { req: r, .. } => req.0 == r.0,
+        Event::Ask(request) => req.0 == request.req.0,
         _ => false,
     }
 }

@@ -2,9 +2,11 @@
 // `specs/` speak of such journals alone: which are lawful, which answer is due, which start comes next.
 #![tactic(auto)]
 
+mod boxed;
 mod cause;
 mod definition;
 mod entry;
+mod event;
 mod journal;
 mod names;
 mod outcome;
@@ -14,12 +16,17 @@ mod sequence;
 mod tests;
 mod text;
 
+pub use boxed::Boxed;
 pub use cause::Cause;
 pub use definition::{
     Actions, Allowed, Base, Definition, Delay, Delays, Description, HostCheck, Parameter,
     Parameters, Registration,
 };
-pub use entry::{Answer, Entry, Event, Exit, Kind, LevelTarget, Phase, Reg, Req, Run, Scope, Slot};
+pub use entry::{Answer, Entry, Exit, Kind, LevelTarget, Phase, Reg, Req, Run, Scope, Slot};
+pub use event::{
+    Confirmation, Described, Ended, Event, LevelCleared, LevelSet, Refusal, Registered, Reply,
+    Request, Start,
+};
 pub use journal::Journal;
 pub use names::{Names, Pair, Pairs, find_pair, has_name, has_pair};
 pub use outcome::{Full, NoMemory, Outcome, Rule};

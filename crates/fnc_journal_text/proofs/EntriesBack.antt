@@ -7,7 +7,7 @@ use Rattle.fnc_journal.specs.declared.definition.Actions.{Actions}
 use Rattle.fnc_journal.specs.declared.definition.Definition.{Definition}
 use Rattle.fnc_journal.specs.declared.definition.Registration.{Registration}
 use Rattle.fnc_journal.specs.declared.entry.Entry.{Entry}
-use Rattle.fnc_journal.specs.declared.entry.Event.{Event}
+use Rattle.fnc_journal.specs.declared.event.Event.{Event}
 use Rattle.fnc_journal.specs.declared.entry.LevelTarget.{LevelTarget}
 use Rattle.fnc_journal.specs.declared.entry.Reg.{Reg}
 use Rattle.fnc_journal.specs.Line.{escaped}
@@ -208,130 +208,130 @@ record IsBack (m : List ℕ) (event : Event) : Type 0 where
   read : event_of (nth (m ∷ words_of event) 1) (m ∷ words_of event) ≡ Ok event
 
 event-back : (m : List ℕ) (event : Event) → Typed.IsEvent event → Within.is_event event ≡ true → IsBack m event
-event-back m (Event.Device reg r) t b =
-    let bounds = is_bounded r b in
+event-back m (Event.Device device_) t b =
+    let bounds = is_bounded device_.registration b in
     record {
-      apart = device-part reg r t.0 bounds t.1;
+      apart = device-part device_.reg device_.registration t.0 bounds t.1;
       read =
-          step _ reg.0 _ _ (u32-back reg.0 t.0)
-          (step _ r.name _ _ (text-back r.name t.1.name)
-          (step _ r.agent _ _ (text-back r.agent t.1.agent)
-          (step _ r.definition _ _ (definition-back m reg r bounds.definition t.1.definition) refl)));
+          step _ device_.reg.0 _ _ (u32-back device_.reg.0 t.0)
+          (step _ device_.registration.name _ _ (text-back device_.registration.name t.1.name)
+          (step _ device_.registration.agent _ _ (text-back device_.registration.agent t.1.agent)
+          (step _ device_.registration.definition _ _ (definition-back m device_.reg device_.registration bounds.definition t.1.definition) refl)));
     }
 event-back m (Event.Gone reg) t b =
     record {
       apart = with refl (with (u32-part reg.0 t) tt);
       read = step _ reg.0 _ _ (u32-back reg.0 t) refl;
     }
-event-back m (Event.Level target index devices) t b =
-    let four = and_parts _ (list_all is_name devices) b in
-    let three = and_parts _ (nat_le (length devices) 8) four.0 in
-    let two = and_parts _ (nat_lt 0 (length devices)) three.0 in
-    let one = and_parts (Within.is_index index) (Within.is_target target) two.0 in
-    let fits = index-fits index one.0 in
+event-back m (Event.Level set) t b =
+    let four = and_parts _ (list_all is_name set.devices) b in
+    let three = and_parts _ (nat_le (length set.devices) 8) four.0 in
+    let two = and_parts _ (nat_lt 0 (length set.devices)) three.0 in
+    let one = and_parts (Within.is_index set.index) (Within.is_target set.target) two.0 in
+    let fits = index-fits set.index one.0 in
     record {
       apart =
           with refl
-          (with (u8-part index fits)
-          (with (target-part target)
-          (with (targeted-part target one.1 t.0)
-          (with (rw (names-has devices two.1 four.1, names-lack devices t.1) refl) tt))));
+          (with (u8-part set.index fits)
+          (with (target-part set.target)
+          (with (targeted-part set.target one.1 t.0)
+          (with (rw (names-has set.devices two.1 four.1, names-lack set.devices t.1) refl) tt))));
       read =
-          step _ index _ _ (u8-back index fits)
-          (step _ target _ _ (target-back target t.0)
-          (step _ devices _ _ (names-back devices four.1 t.1) refl));
+          step _ set.index _ _ (u8-back set.index fits)
+          (step _ set.target _ _ (target-back set.target t.0)
+          (step _ set.devices _ _ (names-back set.devices four.1 t.1) refl));
     }
-event-back m (Event.LevelGone target index) t b =
-    let one = and_parts (Within.is_index index) (Within.is_target target) b in
-    let fits = index-fits index one.0 in
+event-back m (Event.LevelGone cleared) t b =
+    let one = and_parts (Within.is_index cleared.index) (Within.is_target cleared.target) b in
+    let fits = index-fits cleared.index one.0 in
     record {
-      apart = with refl (with (u8-part index fits) (with (target-part target) (with (targeted-part target one.1 t) tt)));
-      read = step _ index _ _ (u8-back index fits) (step _ target _ _ (target-back target t) refl);
+      apart = with refl (with (u8-part cleared.index fits) (with (target-part cleared.target) (with (targeted-part cleared.target one.1 t) tt)));
+      read = step _ cleared.index _ _ (u8-back cleared.index fits) (step _ cleared.target _ _ (target-back cleared.target t) refl);
     }
-event-back m (Event.Agent name d) t b =
-    let one = and_parts (Within.is_agent_name name) (Within.is_described d) b in
-    let carrier = (and_parts _ (Bounds.is_carrier d.target) one.1).1 in
-    record {
-      apart =
-          with refl
-          (with (name-part name (and_parts (is_name name) _ one.0).0 t.name)
-          (with (actions-lacking d.actions)
-          (with (optional-lacks 32 d.target refl t.target) (each-part Spelled.parameter_word Typed.is_parameter parameter-part d.parameters t.parameters))));
-      read =
-          step _ name _ _ (text-back name t.name)
-          (step _ d.target _ _ (optional-back d.target carrier t.target)
-          (step _ d.parameters _ _ (parameters-back d.parameters t.parameters)
-          (ap (λ (actions : Actions). Ok (Event.Agent name (record { actions = actions; parameters = d.parameters; target = d.target })))
-          (actions-back d.actions.on d.actions.off d.actions.reboot d.actions.list d.actions.status))));
-    }
-event-back m (Event.Ask req lead client kind target total coin scope) t b =
-    let names = and_parts (is_name client) (is_name target) b in
+event-back m (Event.Agent described) t b =
+    let one = and_parts (Within.is_agent_name described.name) (Within.is_described described.description) b in
+    let carrier = (and_parts _ (Bounds.is_carrier described.description.target) one.1).1 in
     record {
       apart =
           with refl
-          (with (u32-part req.0 t.0)
-          (with (u32-part lead.0 t.1.0)
-          (with (name-part client names.0 t.1.1.0)
-          (with (kind-part kind)
-          (with (name-part target names.1 t.1.1.1.0)
-          (with (number-part 32 total refl t.1.1.1.1.0)
-          (with (number-part 32 coin refl t.1.1.1.1.1.0)
-          (with (scope-part scope t.1.1.1.1.1.1) tt))))))));
+          (with (name-part described.name (and_parts (is_name described.name) _ one.0).0 t.name)
+          (with (actions-lacking described.description.actions)
+          (with (optional-lacks 32 described.description.target refl t.target) (each-part Spelled.parameter_word Typed.is_parameter parameter-part described.description.parameters t.parameters))));
       read =
-          step _ req.0 _ _ (u32-back req.0 t.0)
-          (step _ lead.0 _ _ (u32-back lead.0 t.1.0)
-          (step _ client _ _ (text-back client t.1.1.0)
-          (step _ kind _ _ (kind-back kind)
-          (step _ target _ _ (text-back target t.1.1.1.0)
-          (step _ total _ _ (u64-back total t.1.1.1.1.0)
-          (step _ coin _ _ (u64-back coin t.1.1.1.1.1.0)
-          (step _ scope _ _ (scope-back scope t.1.1.1.1.1.1) refl)))))));
+          step _ described.name _ _ (text-back described.name t.name)
+          (step _ described.description.target _ _ (optional-back described.description.target carrier t.target)
+          (step _ described.description.parameters _ _ (parameters-back described.description.parameters t.parameters)
+          (ap (λ (actions : Actions). Ok (Event.Agent (record { name = described.name; description = record { actions = actions; parameters = described.description.parameters; target = described.description.target } })))
+          (actions-back described.description.actions.on described.description.actions.off described.description.actions.reboot described.description.actions.list described.description.actions.status))));
     }
-event-back m (Event.Exit run exit is_listed) t b =
+event-back m (Event.Ask ask) t b =
+    let names = and_parts (is_name ask.client) (is_name ask.target) b in
     record {
-      apart = with refl (with (u32-part run.0 t.0) (with (exit-part exit t.1) (with (flag-part is_listed) tt)));
+      apart =
+          with refl
+          (with (u32-part ask.req.0 t.0)
+          (with (u32-part ask.lead.0 t.1.0)
+          (with (name-part ask.client names.0 t.1.1.0)
+          (with (kind-part ask.kind)
+          (with (name-part ask.target names.1 t.1.1.1.0)
+          (with (number-part 32 ask.total refl t.1.1.1.1.0)
+          (with (number-part 32 ask.coin refl t.1.1.1.1.1.0)
+          (with (scope-part ask.scope t.1.1.1.1.1.1) tt))))))));
       read =
-          step _ run.0 _ _ (u32-back run.0 t.0)
-          (step _ exit _ _ (exit-back exit t.1) (ap (λ (flag : Bool). Ok (Event.Exit run exit flag)) (flag-back is_listed)));
+          step _ ask.req.0 _ _ (u32-back ask.req.0 t.0)
+          (step _ ask.lead.0 _ _ (u32-back ask.lead.0 t.1.0)
+          (step _ ask.client _ _ (text-back ask.client t.1.1.0)
+          (step _ ask.kind _ _ (kind-back ask.kind)
+          (step _ ask.target _ _ (text-back ask.target t.1.1.1.0)
+          (step _ ask.total _ _ (u64-back ask.total t.1.1.1.1.0)
+          (step _ ask.coin _ _ (u64-back ask.coin t.1.1.1.1.1.0)
+          (step _ ask.scope _ _ (scope-back ask.scope t.1.1.1.1.1.1) refl)))))));
+    }
+event-back m (Event.Exit ended) t b =
+    record {
+      apart = with refl (with (u32-part ended.run.0 t.0) (with (exit-part ended.exit t.1) (with (flag-part ended.listed) tt)));
+      read =
+          step _ ended.run.0 _ _ (u32-back ended.run.0 t.0)
+          (step _ ended.exit _ _ (exit-back ended.exit t.1) (ap (λ (flag : Bool). Ok (Event.Exit (record { run = ended.run; exit = ended.exit; listed = flag }))) (flag-back ended.listed)));
     }
 event-back m Event.Pass t b = record { apart = (refl, tt); read = refl }
-event-back m (Event.Confirm client target) t b =
-    let names = and_parts (is_name client) (is_name target) b in
+event-back m (Event.Confirm confirmation) t b =
+    let names = and_parts (is_name confirmation.client) (is_name confirmation.target) b in
     record {
-      apart = with refl (with (name-part client names.0 t.0) (with (name-part target names.1 t.1) tt));
-      read = step _ client _ _ (text-back client t.0) (step _ target _ _ (text-back target t.1) refl);
+      apart = with refl (with (name-part confirmation.client names.0 t.0) (with (name-part confirmation.target names.1 t.1) tt));
+      read = step _ confirmation.client _ _ (text-back confirmation.client t.0) (step _ confirmation.target _ _ (text-back confirmation.target t.1) refl);
     }
-event-back m (Event.Refused line cause) t b =
+event-back m (Event.Refused refusal) t b =
     record {
-      apart = with refl (with (u32-part line t) (with (cause-part cause) tt));
-      read = step _ line _ _ (u32-back line t) (step _ cause _ _ (cause-back cause) refl);
+      apart = with refl (with (u32-part refusal.line t) (with (cause-part refusal.cause) tt));
+      read = step _ refusal.line _ _ (u32-back refusal.line t) (step _ refusal.cause _ _ (cause-back refusal.cause) refl);
     }
-event-back m (Event.Start run req slot reg kind attempt) t b =
+event-back m (Event.Start start) t b =
     record {
       apart =
           with refl
-          (with (u32-part run.0 t.0)
-          (with (u32-part req.0 t.1.0)
-          (with (phase-part slot.phase)
-          (with (u8-part slot.level t.1.1.0)
-          (with (u8-part slot.place t.1.1.1.0)
-          (with (u32-part reg.0 t.1.1.1.1.0)
-          (with (kind-part kind)
-          (with (u8-part attempt t.1.1.1.1.1) tt))))))));
+          (with (u32-part start.run.0 t.0)
+          (with (u32-part start.req.0 t.1.0)
+          (with (phase-part start.slot.phase)
+          (with (u8-part start.slot.level t.1.1.0)
+          (with (u8-part start.slot.place t.1.1.1.0)
+          (with (u32-part start.reg.0 t.1.1.1.1.0)
+          (with (kind-part start.kind)
+          (with (u8-part start.attempt t.1.1.1.1.1) tt))))))));
       read =
-          step _ run.0 _ _ (u32-back run.0 t.0)
-          (step _ req.0 _ _ (u32-back req.0 t.1.0)
-          (step _ slot.phase _ _ (phase-back slot.phase)
-          (step _ slot.level _ _ (u8-back slot.level t.1.1.0)
-          (step _ slot.place _ _ (u8-back slot.place t.1.1.1.0)
-          (step _ reg.0 _ _ (u32-back reg.0 t.1.1.1.1.0)
-          (step _ kind _ _ (kind-back kind)
-          (step _ attempt _ _ (u8-back attempt t.1.1.1.1.1) refl)))))));
+          step _ start.run.0 _ _ (u32-back start.run.0 t.0)
+          (step _ start.req.0 _ _ (u32-back start.req.0 t.1.0)
+          (step _ start.slot.phase _ _ (phase-back start.slot.phase)
+          (step _ start.slot.level _ _ (u8-back start.slot.level t.1.1.0)
+          (step _ start.slot.place _ _ (u8-back start.slot.place t.1.1.1.0)
+          (step _ start.reg.0 _ _ (u32-back start.reg.0 t.1.1.1.1.0)
+          (step _ start.kind _ _ (kind-back start.kind)
+          (step _ start.attempt _ _ (u8-back start.attempt t.1.1.1.1.1) refl)))))));
     }
-event-back m (Event.Reply req answer) t b =
+event-back m (Event.Reply reply) t b =
     record {
-      apart = with refl (with (u32-part req.0 t.0) (with (answer-part answer) (with (answered-part answer t.1) tt)));
-      read = step _ req.0 _ _ (u32-back req.0 t.0) (step _ answer _ _ (answer-back answer t.1) refl);
+      apart = with refl (with (u32-part reply.req.0 t.0) (with (answer-part reply.answer) (with (answered-part reply.answer t.1) tt)));
+      read = step _ reply.req.0 _ _ (u32-back reply.req.0 t.0) (step _ reply.answer _ _ (answer-back reply.answer t.1) refl);
     }
 
 -- what the line of an entry is read as

@@ -15,7 +15,7 @@ use Rattle.fnc_journal.specs.declared.definition.Parameter.{Parameter}
 use Rattle.fnc_journal.specs.declared.definition.Registration.{Registration}
 use Rattle.fnc_journal.specs.declared.entry.Answer.{Answer}
 use Rattle.fnc_journal.specs.declared.entry.Entry.{Entry}
-use Rattle.fnc_journal.specs.declared.entry.Event.{Event}
+use Rattle.fnc_journal.specs.declared.event.Event.{Event}
 use Rattle.fnc_journal.specs.declared.entry.Exit.{Exit}
 use Rattle.fnc_journal.specs.declared.entry.Kind.{Kind}
 use Rattle.fnc_journal.specs.declared.entry.LevelTarget.{LevelTarget}
@@ -231,18 +231,18 @@ gone_words reg = codes "gone" ∷ decimal reg.0 ∷ []
 
 -- the words after the moment
 abbrev pub words_of : Event → List (List ℕ)
-words_of (Event.Device reg registration) = device_words reg registration
+words_of (Event.Device device) = device_words device.reg device.registration
 words_of (Event.Gone reg) = gone_words reg
-words_of (Event.Level target index devices) = level_words index target devices
-words_of (Event.LevelGone target index) = level_gone_words index target
-words_of (Event.Agent name description) = agent_words name description
-words_of (Event.Ask req lead client kind target total coin scope) = ask_words req lead client kind target total coin scope
-words_of (Event.Exit run exit is_listed) = exit_words run exit is_listed
+words_of (Event.Level set) = level_words set.index set.target set.devices
+words_of (Event.LevelGone cleared) = level_gone_words cleared.index cleared.target
+words_of (Event.Agent described) = agent_words described.name described.description
+words_of (Event.Ask ask) = ask_words ask.req ask.lead ask.client ask.kind ask.target ask.total ask.coin ask.scope
+words_of (Event.Exit ended) = exit_words ended.run ended.exit ended.listed
 words_of Event.Pass = codes "pass" ∷ []
-words_of (Event.Confirm client target) = confirm_words client target
-words_of (Event.Refused line cause) = refused_words line cause
-words_of (Event.Start run req slot reg kind attempt) = start_words run req slot reg kind attempt
-words_of (Event.Reply req answer) = reply_words req answer
+words_of (Event.Confirm confirmation) = confirm_words confirmation.client confirmation.target
+words_of (Event.Refused refusal) = refused_words refusal.line refusal.cause
+words_of (Event.Start start) = start_words start.run start.req start.slot start.reg start.kind start.attempt
+words_of (Event.Reply reply) = reply_words reply.req reply.answer
 
 -- words, a space before each
 abbrev pub spaced : List (List ℕ) → List ℕ

@@ -11,7 +11,7 @@ use Rattle.fnc_journal.specs.declared.definition.Parameter.{Parameter}
 use Rattle.fnc_journal.specs.declared.definition.Registration.{Registration}
 use Rattle.fnc_journal.specs.declared.entry.Answer.{Answer}
 use Rattle.fnc_journal.specs.declared.entry.Entry.{Entry}
-use Rattle.fnc_journal.specs.declared.entry.Event.{Event}
+use Rattle.fnc_journal.specs.declared.event.Event.{Event}
 use Rattle.fnc_journal.specs.declared.entry.Exit.{Exit}
 use Rattle.fnc_journal.specs.declared.entry.LevelTarget.{LevelTarget}
 use Rattle.fnc_journal.specs.declared.entry.Scope.{Scope}
@@ -91,20 +91,20 @@ IsAnswer _ = Unit {0}
 
 -- an event
 abbrev pub IsEvent : Event → Type 0
-IsEvent (Event.Device reg registration) = IsU32 reg.0 × IsDevice registration
+IsEvent (Event.Device device) = IsU32 device.reg.0 × IsDevice device.registration
 IsEvent (Event.Gone reg) = IsU32 reg.0
-IsEvent (Event.Level target index devices) = IsTrue (is_target target) × IsTrue (list_all are_characters devices)
-IsEvent (Event.LevelGone target index) = IsTrue (is_target target)
-IsEvent (Event.Agent name description) = IsAgent name description
-IsEvent (Event.Ask req lead client kind target total coin scope) =
-    IsU32 req.0 × (IsU32 lead.0 × (IsTrue (are_characters client) × (IsTrue (are_characters target) × (IsU64 total × (IsU64 coin × IsScope scope)))))
-IsEvent (Event.Exit run exit listed) = IsU32 run.0 × IsExit exit
+IsEvent (Event.Level set) = IsTrue (is_target set.target) × IsTrue (list_all are_characters set.devices)
+IsEvent (Event.LevelGone cleared) = IsTrue (is_target cleared.target)
+IsEvent (Event.Agent described) = IsAgent described.name described.description
+IsEvent (Event.Ask ask) =
+    IsU32 ask.req.0 × (IsU32 ask.lead.0 × (IsTrue (are_characters ask.client) × (IsTrue (are_characters ask.target) × (IsU64 ask.total × (IsU64 ask.coin × IsScope ask.scope)))))
+IsEvent (Event.Exit ended) = IsU32 ended.run.0 × IsExit ended.exit
 IsEvent Event.Pass = Unit {0}
-IsEvent (Event.Confirm client target) = IsTrue (are_characters client) × IsTrue (are_characters target)
-IsEvent (Event.Refused line cause) = IsU32 line
-IsEvent (Event.Start run req slot reg kind attempt) =
-    IsU32 run.0 × (IsU32 req.0 × (IsU8 slot.level × (IsU8 slot.place × (IsU32 reg.0 × IsU8 attempt))))
-IsEvent (Event.Reply req answer) = IsU32 req.0 × IsAnswer answer
+IsEvent (Event.Confirm confirmation) = IsTrue (are_characters confirmation.client) × IsTrue (are_characters confirmation.target)
+IsEvent (Event.Refused refusal) = IsU32 refusal.line
+IsEvent (Event.Start start) =
+    IsU32 start.run.0 × (IsU32 start.req.0 × (IsU8 start.slot.level × (IsU8 start.slot.place × (IsU32 start.reg.0 × IsU8 start.attempt))))
+IsEvent (Event.Reply reply) = IsU32 reply.req.0 × IsAnswer reply.answer
 
 -- an entry
 pub record IsTyped (e : Entry) : Type 0 where

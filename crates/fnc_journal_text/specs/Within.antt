@@ -7,7 +7,7 @@ use Rattle.fnc_journal.specs.declared.definition.Description.{Description}
 use Rattle.fnc_journal.specs.declared.definition.Parameter.{Parameter}
 use Rattle.fnc_journal.specs.declared.definition.Registration.{Registration}
 use Rattle.fnc_journal.specs.declared.entry.Entry.{Entry}
-use Rattle.fnc_journal.specs.declared.entry.Event.{Event}
+use Rattle.fnc_journal.specs.declared.event.Event.{Event}
 use Rattle.fnc_journal.specs.declared.entry.LevelTarget.{LevelTarget}
 use Rattle.fnc_journal.specs.Bounds.{is_allowed, is_base, is_cap, is_carrier, is_host, is_host_pair, is_option_name, is_own_option, is_priority, is_time}
 use Rattle.fnc_text.specs.Names.{is_name}
@@ -55,13 +55,13 @@ is_index index = nat_lt 0 index && nat_le index 9
 
 -- the bounds of an event; every other number has the range of its type alone
 abbrev pub is_event : Event → Bool
-is_event (Event.Device reg registration) = is_device registration
-is_event (Event.Level target index devices) =
-    is_index index && is_target target && nat_lt 0 (length devices) && nat_le (length devices) 8 && list_all is_name devices
-is_event (Event.LevelGone target index) = is_index index && is_target target
-is_event (Event.Agent name description) = is_agent_name name && is_described description
-is_event (Event.Ask req lead client kind target total coin scope) = is_name client && is_name target
-is_event (Event.Confirm client target) = is_name client && is_name target
+is_event (Event.Device device) = is_device device.registration
+is_event (Event.Level set) =
+    is_index set.index && is_target set.target && nat_lt 0 (length set.devices) && nat_le (length set.devices) 8 && list_all is_name set.devices
+is_event (Event.LevelGone cleared) = is_index cleared.index && is_target cleared.target
+is_event (Event.Agent described) = is_agent_name described.name && is_described described.description
+is_event (Event.Ask ask) = is_name ask.client && is_name ask.target
+is_event (Event.Confirm confirmation) = is_name confirmation.client && is_name confirmation.target
 is_event _ = true
 
 -- the bounds of an entry

@@ -6,10 +6,7 @@ ghost use Rattle.fnc_text.specs.Names as Names;
 ghost use Rattle.fnc_journal.specs.Bounds as Bounds;
 ghost use Rattle.fnc_journal_text.specs.Within as Within;
 
-use fnc_journal::{
-    Allowed, Base, Definition, Delay, Description, Entry, Event, LevelTarget, Pair, Parameter,
-    Registration, Text,
-};
+use fnc_journal::{Allowed, Base, Confirmation, Definition, Delay, Described, Description, Entry, Event, LevelCleared, LevelSet, LevelTarget, Pair, Parameter, Registered, Registration, Request, Text};
 use fnc_text::is_name;
 
 /// The longest duration, a day, in milliseconds.
@@ -20,23 +17,23 @@ pub(crate) fn is_within(entry: &Entry) -> bool
     ensures { result ≡ Within.is_within entry.now }
 {
     match &entry.event {
-        Event::Device { registration, .. } => is_device(registration),
-        Event::Level {
+        Event::Device(Registered { registration, .. }) => is_device(registration),
+        Event::Level(LevelSet {
             target,
             index,
             devices,
-        } => {
+        }) => {
             is_index(*index)
                 && is_target(target)
                 && !devices.as_slice().is_empty()
                 && devices.as_slice().len() <= 8
                 && are_names(devices.as_slice())
         }
-        Event::LevelGone { target, index } => is_index(*index) && is_target(target),
-        Event::Agent { name, description } => {
+        Event::LevelGone(LevelCleared { target, index }) => is_index(*index) && is_target(target),
+        Event::Agent(Described { name, description }) => {
             is_agent_name(name.as_str()) && is_described(description)
         }
-        Event::Ask { client, target, .. } | Event::Confirm { client, target } => {
+        Event::Ask(Request { client, target, .. }) | Event::Confirm(Confirmation { client, target }) => {
             is_name(client.as_str()) && is_name(target.as_str())
         }
         _ => true,

@@ -12,10 +12,7 @@ use crate::printing::{Piece, print_pieces};
 use crate::words::{
     answer_piece, answer_word, exit_piece, flag_word, phase_word, target_text, target_word,
 };
-use fnc_journal::{
-    Answer, Cause, Description, Event, Exit, Kind, LevelTarget, Names, Reg, Req, Run, Scope, Slot,
-    Text,
-};
+use fnc_journal::{Answer, Cause, Confirmation, Described, Description, Ended, Event, Exit, Kind, LevelCleared, LevelSet, LevelTarget, Names, Refusal, Reg, Registered, Reply, Req, Request, Run, Scope, Slot, Start, Text};
 use fnc_outside::{Sink, SinkFailed};
 
 /// Prints the words of an event, a space before each.
@@ -26,16 +23,16 @@ pub(crate) fn print_event<K: Sink>(event: &Event, sink: &mut K) -> Result<(), Si
     ensures cause { OnErr result (Rose (K.faults sink.old) (K.faults sink.new)) }
 {
     match event {
-        Event::Device { reg, registration } => print_device(*reg, registration, sink),
+        Event::Device(Registered { reg, registration }) => print_device(*reg, registration, sink),
         Event::Gone { reg } => print_gone(*reg, sink),
-        Event::Level {
+        Event::Level(LevelSet {
             target,
             index,
             devices,
-        } => print_level(*index, target, devices, sink),
-        Event::LevelGone { target, index } => print_level_gone(*index, target, sink),
-        Event::Agent { name, description } => print_agent(name, description, sink),
-        Event::Ask {
+        }) => print_level(*index, target, devices, sink),
+        Event::LevelGone(LevelCleared { target, index }) => print_level_gone(*index, target, sink),
+        Event::Agent(Described { name, description }) => print_agent(name, description, sink),
+        Event::Ask(Request {
             req,
             lead,
             client,
@@ -44,22 +41,22 @@ pub(crate) fn print_event<K: Sink>(event: &Event, sink: &mut K) -> Result<(), Si
             total,
             coin,
             scope,
-        } => print_ask(
+        }) => print_ask(
             *req, *lead, client, *kind, target, *total, *coin, *scope, sink,
         ),
-        Event::Exit { run, exit, listed } => print_exit(*run, *exit, *listed, sink),
+        Event::Exit(Ended { run, exit, listed }) => print_exit(*run, *exit, *listed, sink),
         Event::Pass => print_pieces(&[Piece::Word(" pass")], sink),
-        Event::Confirm { client, target } => print_confirm(client, target, sink),
-        Event::Refused { line, cause } => print_refused(*line, *cause, sink),
-        Event::Start {
+        Event::Confirm(Confirmation { client, target }) => print_confirm(client, target, sink),
+        Event::Refused(Refusal { line, cause }) => print_refused(*line, *cause, sink),
+        Event::Start(Start {
             run,
             req,
             slot,
             reg,
             kind,
             attempt,
-        } => print_start(*run, *req, *slot, *reg, *kind, *attempt, sink),
-        Event::Reply { req, answer } => print_reply(*req, *answer, sink),
+        }) => print_start(*run, *req, *slot, *reg, *kind, *attempt, sink),
+        Event::Reply(Reply { req, answer }) => print_reply(*req, *answer, sink),
     }
 }
 

@@ -21,7 +21,7 @@ use crate::values::{
     read_actions, read_allowed, read_cap, read_flag, read_optional, read_priority, read_target,
     read_text, read_u8, read_u32, read_u64,
 };
-use fnc_journal::{Definition, Description, Entry, Event, Reg, Registration, Req, Run, Slot};
+use fnc_journal::{Confirmation, Definition, Described, Description, Ended, Entry, Event, LevelCleared, LevelSet, Refusal, Reg, Registered, Registration, Reply, Req, Request, Run, Slot, Start};
 use std::alloc::Global;
 
 /// What the words of a line are read as.
@@ -82,14 +82,14 @@ fn read_device(alloc: Global, line: &[u8]) -> Result<Event, EntryFault>
     let name = read_text(alloc, word(line, 3))?;
     let agent = read_text(alloc, word(line, 4))?;
     let definition = read_definition(alloc, line)?;
-    Ok(Event::Device {
+    Ok(Event::Device(Registered {
         reg: Reg(reg),
         registration: Registration {
             name,
             agent,
             definition,
         },
-    })
+    }))
 }
 
 fn read_definition(alloc: Global, line: &[u8]) -> Result<Definition, EntryFault>
@@ -143,11 +143,11 @@ fn read_level(alloc: Global, line: &[u8]) -> Result<Event, EntryFault>
     let index = read_u8(word(line, 2))?;
     let target = read_target(alloc, word(line, 3), word(line, 4))?;
     let devices = read_names(alloc, word(line, 5))?;
-    Ok(Event::Level {
+    Ok(Event::Level(LevelSet {
         target,
         index,
         devices,
-    })
+    }))
 }
 
 fn read_level_gone(alloc: Global, line: &[u8]) -> Result<Event, EntryFault>
@@ -155,7 +155,7 @@ fn read_level_gone(alloc: Global, line: &[u8]) -> Result<Event, EntryFault>
 {
     let index = read_u8(word(line, 2))?;
     let target = read_target(alloc, word(line, 3), word(line, 4))?;
-    Ok(Event::LevelGone { target, index })
+    Ok(Event::LevelGone(LevelCleared { target, index }))
 }
 
 fn read_agent(alloc: Global, line: &[u8]) -> Result<Event, EntryFault>
@@ -164,14 +164,14 @@ fn read_agent(alloc: Global, line: &[u8]) -> Result<Event, EntryFault>
     let name = read_text(alloc, word(line, 2))?;
     let target = read_optional(alloc, value(line, 4))?;
     let parameters = read_parameters(alloc, rest(line, 5))?;
-    Ok(Event::Agent {
+    Ok(Event::Agent(Described {
         name,
         description: Description {
             actions: read_actions(value(line, 3)),
             parameters,
             target,
         },
-    })
+    }))
 }
 
 fn read_ask(alloc: Global, line: &[u8]) -> Result<Event, EntryFault>
@@ -185,7 +185,7 @@ fn read_ask(alloc: Global, line: &[u8]) -> Result<Event, EntryFault>
     let total = read_u64(word(line, 7))?;
     let coin = read_u64(word(line, 8))?;
     let scope = read_scope(word(line, 9))?;
-    Ok(Event::Ask {
+    Ok(Event::Ask(Request {
         req: Req(req),
         lead: Req(lead),
         client,
@@ -194,7 +194,7 @@ fn read_ask(alloc: Global, line: &[u8]) -> Result<Event, EntryFault>
         total,
         coin,
         scope,
-    })
+    }))
 }
 
 fn read_exited(line: &[u8]) -> Result<Event, EntryFault>
@@ -202,11 +202,11 @@ fn read_exited(line: &[u8]) -> Result<Event, EntryFault>
 {
     let run = read_u32(word(line, 2))?;
     let exit = read_exit(word(line, 3))?;
-    Ok(Event::Exit {
+    Ok(Event::Exit(Ended {
         run: Run(run),
         exit,
         listed: read_flag(word(line, 4)),
-    })
+    }))
 }
 
 fn read_confirm(alloc: Global, line: &[u8]) -> Result<Event, EntryFault>
@@ -214,7 +214,7 @@ fn read_confirm(alloc: Global, line: &[u8]) -> Result<Event, EntryFault>
 {
     let client = read_text(alloc, word(line, 2))?;
     let target = read_text(alloc, word(line, 3))?;
-    Ok(Event::Confirm { client, target })
+    Ok(Event::Confirm(Confirmation { client, target }))
 }
 
 fn read_refused(line: &[u8]) -> Result<Event, EntryFault>
@@ -222,10 +222,10 @@ fn read_refused(line: &[u8]) -> Result<Event, EntryFault>
 {
     let number = read_u32(word(line, 2))?;
     let cause = read_cause(word(line, 3))?;
-    Ok(Event::Refused {
+    Ok(Event::Refused(Refusal {
         line: number,
         cause,
-    })
+    }))
 }
 
 fn read_start(line: &[u8]) -> Result<Event, EntryFault>
@@ -239,7 +239,7 @@ fn read_start(line: &[u8]) -> Result<Event, EntryFault>
     let reg = read_u32(word(line, 7))?;
     let kind = read_kind(word(line, 8))?;
     let attempt = read_u8(word(line, 9))?;
-    Ok(Event::Start {
+    Ok(Event::Start(Start {
         run: Run(run),
         req: Req(req),
         slot: Slot {
@@ -250,7 +250,7 @@ fn read_start(line: &[u8]) -> Result<Event, EntryFault>
         reg: Reg(reg),
         kind,
         attempt,
-    })
+    }))
 }
 
 fn read_reply(line: &[u8]) -> Result<Event, EntryFault>
@@ -258,10 +258,10 @@ fn read_reply(line: &[u8]) -> Result<Event, EntryFault>
 {
     let req = read_u32(word(line, 2))?;
     let answer = read_answer(word(line, 3), word(line, 4))?;
-    Ok(Event::Reply {
+    Ok(Event::Reply(Reply {
         req: Req(req),
         answer,
-    })
+    }))
 }
 
 /// Reads a line of a journal's text. Each entry within the bounds is read from its line, and no other

@@ -1,5 +1,5 @@
 use crate::{EntryFault, Form, print_head, print_one, read_entry};
-use fnc_journal::{Entry, Event, Req};
+use fnc_journal::{Entry, Event, Reply, Req};
 use fnc_outside::{MemorySink, SinkFailed, Torn};
 use std::alloc::Global;
 use std::process::Abort;
@@ -58,10 +58,10 @@ fn a_failed_write_leaves_the_front_of_a_line(rt: HostRuntime) -> Result<(), Fail
     let mut sink = MemorySink::torn(rt.alloc(), 64, &torn)?;
     let entry = Entry {
         moment: 10,
-        event: Event::Reply {
+        event: Event::Reply(Reply {
             req: Req(400),
             answer: fnc_journal::Answer::Time,
-        },
+        }),
     };
     assert_eq!(rt; print_head(Form::Answers, &mut sink), Ok(()));
     assert_eq!(rt; print_one(&entry, &mut sink), Err(SinkFailed));

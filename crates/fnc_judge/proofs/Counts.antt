@@ -1,15 +1,15 @@
 -- The numbers of a journal, one entry after another.
 use Rattle.std.proofs.Common.{ℕ, [], ◌∷◌, Bool, true, false, ◌≡◌, ◌≤◌, ◌<◌, ◌+◌, cond, refl, arith, length}
 use Rattle.fnc_journal.specs.declared.entry.Entry.{Entry}
-use Rattle.fnc_journal.specs.declared.entry.Event.{Event}
+use Rattle.fnc_journal.specs.declared.event.Event.{Event}
 use Rattle.fnc_journal.specs.History.{History}
 use Rattle.fnc_journal.specs.Found.{devices, asks, starts, is_device, is_ask, is_start}
 use Rattle.fnc_judge.specs.Numbers.{IsBelow, numbered, numbers_of}
 
 pub numbers-more : (m : ℕ) (event : Event) (h : History) → numbered (numbers_of h) event ≡ numbers_of (record { moment = m; event = event } ∷ h)
-numbers-more m (Event.Device reg registration) h = refl
-numbers-more m (Event.Ask req lead client kind target total coin scope) h = refl
-numbers-more m (Event.Start run req slot reg kind attempt) h = refl
+numbers-more m (Event.Device device) h = refl
+numbers-more m (Event.Ask ask) h = refl
+numbers-more m (Event.Start start) h = refl
 numbers-more m _ h = refl
 
 one-more : (b : Bool) (n : ℕ) (e : Entry) (h : History) → n ≤ length h → cond b (n + 1) n ≤ length (e ∷ h)

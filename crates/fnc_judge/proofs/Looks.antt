@@ -1,7 +1,7 @@
 -- What is seen of a slot, one act after another.
 use Rattle.std.proofs.Common.{ℕ, List, [], ◌∷◌, Bool, true, false, ◌≡◌, ◌≤◌, ◌+◌, ◌==◌, ◌&&◌, ◌||◌, ◌<◌, ◌∙◌, not, cond, refl, sym, ap, Option, Some, None, arith, length, ltb, le-ltb}
 use Rattle.std.specs.Prelude.{option_map, is_some}
-use Rattle.fnc_journal.specs.declared.entry.Event.{Event}
+use Rattle.fnc_journal.specs.declared.event.Event.{Event}
 use Rattle.fnc_journal.specs.declared.entry.Slot.{Slot}
 use Rattle.fnc_journal.specs.History.{History}
 use Rattle.fnc_journal.specs.Missing.{or_here}
@@ -15,15 +15,15 @@ use Rattle.fnc_judge.specs.Seen.{answered_by, confirmed_by, concluded_by, begun_
 
 pub slot-more : (o n m : ℕ) (event : Event) (h : History) →
     or_here (slot_of_run n (acts o h)) (begun_slot o n event) ≡ slot_of_run n (acts o (record { moment = m; event = event } ∷ h))
-slot-more o n m (Event.Start run req slot reg kind attempt) h = go (o == req.0) (n == run.0) refl
+slot-more o n m (Event.Start start) h = go (o == start.req.0) (n == start.run.0) refl
   where
-    go : (b c : Bool) → (n == run.0) ≡ c → or_here (slot_of_run n (acts o h)) (cond (b && c) (Some slot) None) ≡ slot_of_run n (cons_act (cond b (Some (Act.Begun m run.0 slot)) None) (acts o h))
+    go : (b c : Bool) → (n == start.run.0) ≡ c → or_here (slot_of_run n (acts o h)) (cond (b && c) (Some start.slot) None) ≡ slot_of_run n (cons_act (cond b (Some (Act.Begun m start.run.0 start.slot)) None) (acts o h))
     go true true p = rw p refl
     go true false p = rw p refl
     go false c p = refl
-slot-more o n m (Event.Exit run exit listed) h = go (slot_of_run run.0 (acts o h))
+slot-more o n m (Event.Exit ended) h = go (slot_of_run ended.run.0 (acts o h))
   where
-    go : (s : Option Slot) → slot_of_run n (acts o h) ≡ slot_of_run n (cons_act (option_map (λ slot. Act.Ended m slot exit listed) s) (acts o h))
+    go : (s : Option Slot) → slot_of_run n (acts o h) ≡ slot_of_run n (cons_act (option_map (λ slot. Act.Ended m slot ended.exit ended.listed) s) (acts o h))
     go None = refl
     go (Some s) = refl
 slot-more o n m _ h = refl
@@ -90,9 +90,9 @@ some-earlier x None = refl
 some-earlier x (Some y) = refl
 
 act-none : (o m : ℕ) (event : Event) → starts_for o event ≡ false → act_here o m [] event ≡ None
-act-none o m (Event.Start run req slot reg kind attempt) p = rw p refl
-act-none o m (Event.Exit run exit listed) p = refl
-act-none o m (Event.Device reg registration) p = refl
+act-none o m (Event.Start start) p = rw p refl
+act-none o m (Event.Exit ended) p = refl
+act-none o m (Event.Device device) p = refl
 act-none o m _ p = refl
 
 pub acts-none : (o : ℕ) (h : History) → first_start_of o h ≡ None → acts o h ≡ []

@@ -2,7 +2,7 @@
 use Rattle.std.proofs.Common.{ℕ, List, [], ◌∷◌, ◌++◌, Bool, true, false, ◌≡◌, ◌≤◌, ◌+◌, ◌==◌, ◌&&◌, ◌||◌, not, ltb, ltb-true, ltb-false, lt-ltb, cond, refl, sym, ap, ◌∙◌, arith, Option, Some, None, length}
 use Rattle.std.specs.Prelude.{if◌then◌else◌, find, filter, filter_map, map, is_none, is_some, option_map, option_and_then}
 use Rattle.std.specs.List.{list_any, cons_option}
-use Rattle.fnc_journal.specs.declared.entry.Event.{Event}
+use Rattle.fnc_journal.specs.declared.event.Event.{Event}
 use Rattle.fnc_journal.specs.History.{History}
 use Rattle.fnc_journal.specs.Missing.{or_here, append_some, first_of, has_any}
 use Rattle.fnc_journal.specs.Found.{Asked, asked, is_answered, has_exit}
@@ -202,7 +202,7 @@ alive-append all l (d ∷ ds) b = go (not (has_exit d.run all)) (lane d.reg all 
 
 pub alive-more : (all : History) (l m : ℕ) (event : Event) (h : History) →
     cond (counts_here all l event) (alive_in all l (begun_runs h) + 1) (alive_in all l (begun_runs h)) ≡ alive_in all l (begun_runs (record { moment = m; event = event } ∷ h))
-alive-more all l m (Event.Start run req slot reg kind attempt) h = alive-append all l (begun_runs h) (record { run = run.0; reg = reg.0 })
+alive-more all l m (Event.Start start) h = alive-append all l (begun_runs h) (record { run = start.run.0; reg = start.reg.0 })
 alive-more all l m _ h = refl
 
 pub alive-most : (all : History) (l : ℕ) (h : History) → alive_in all l (begun_runs h) ≤ length h

@@ -2,7 +2,7 @@
 use Rattle.std.proofs.Common.{ℕ, List, [], ◌∷◌, Bool, true, false, ◌≡◌, ◌≤◌, ◌<◌, ◌+◌, ◌==◌, ◌&&◌, max, cond, refl, sym, ap, subst, ◌∙◌, Option, Some, None, arith, length, ltb, ltb-true, ltb-false, lt-ltb, le-ltb, eqb-true, false-eqb, ne_eqb}
 use Rattle.std.specs.Prelude.{find}
 use Rattle.std.specs.List.{AllByRecursion}
-use Rattle.fnc_journal.specs.declared.entry.Event.{Event}
+use Rattle.fnc_journal.specs.declared.event.Event.{Event}
 use Rattle.fnc_journal.specs.declared.entry.LevelTarget.{LevelTarget}
 use Rattle.fnc_journal.specs.History.{History}
 use Rattle.fnc_journal.specs.Same.{same_target}
@@ -67,16 +67,16 @@ rising target [] = tt
 rising target (e ∷ before) = go e.event (rising target before)
   where
     go : (event : Event) → Rising (levels target before) → Rising (levels_after target (length before) event (levels target before))
-    go (Event.Level t index names) r = set (same_target target t) r
+    go (Event.Level set_) r = set (same_target target set_.target) r
       where
         set : (b : Bool) → Rising (levels target before) →
-            Rising (cond b (with_level (record { at = length before; index = index; devices = names }) (levels target before)) (levels target before))
+            Rising (cond b (with_level (record { at = length before; index = set_.index; devices = set_.devices }) (levels target before)) (levels target before))
         set true r = rising-with _ (levels target before) r
         set false r = r
-    go (Event.LevelGone t index) r = gone (same_target target t) r
+    go (Event.LevelGone cleared) r = gone (same_target target cleared.target) r
       where
-        gone : (b : Bool) → Rising (levels target before) → Rising (cond b (without_level index (levels target before)) (levels target before))
-        gone true r = rising-without index (levels target before) r
+        gone : (b : Bool) → Rising (levels target before) → Rising (cond b (without_level cleared.index (levels target before)) (levels target before))
+        gone true r = rising-without cleared.index (levels target before) r
         gone false r = r
     go _ r = r
 
@@ -132,18 +132,18 @@ find-without i index (k ∷ ks) r = go (index == k.index) refl (i == index) refl
 -- the level of an index, one entry after another
 pub level-more : (target : LevelTarget) (i m : ℕ) (event : Event) (h : History) →
     level_step target i (length h) event (of_index i (levels target h)) ≡ of_index i (levels target (record { moment = m; event = event } ∷ h))
-level-more target i m (Event.Level t index names) h = go (same_target target t) (i == index) (find-with i (record { at = length h; index = index; devices = names }) (levels target h))
+level-more target i m (Event.Level set) h = go (same_target target set.target) (i == set.index) (find-with i (record { at = length h; index = set.index; devices = set.devices }) (levels target h))
   where
-    go : (b c : Bool) → of_index i (with_level (record { at = length h; index = index; devices = names }) (levels target h)) ≡ cond c (Some (record { at = length h; index = index; devices = names })) (of_index i (levels target h)) →
-        cond (b && c) (Some (record { at = length h; index = index; devices = names })) (of_index i (levels target h))
-        ≡ of_index i (cond b (with_level (record { at = length h; index = index; devices = names }) (levels target h)) (levels target h))
+    go : (b c : Bool) → of_index i (with_level (record { at = length h; index = set.index; devices = set.devices }) (levels target h)) ≡ cond c (Some (record { at = length h; index = set.index; devices = set.devices })) (of_index i (levels target h)) →
+        cond (b && c) (Some (record { at = length h; index = set.index; devices = set.devices })) (of_index i (levels target h))
+        ≡ of_index i (cond b (with_level (record { at = length h; index = set.index; devices = set.devices }) (levels target h)) (levels target h))
     go true true f = sym f
     go true false f = sym f
     go false c f = refl
-level-more target i m (Event.LevelGone t index) h = go (same_target target t) (i == index) (find-without i index (levels target h) (rising target h))
+level-more target i m (Event.LevelGone cleared) h = go (same_target target cleared.target) (i == cleared.index) (find-without i cleared.index (levels target h) (rising target h))
   where
-    go : (b c : Bool) → of_index i (without_level index (levels target h)) ≡ cond c None (of_index i (levels target h)) →
-        cond (b && c) None (of_index i (levels target h)) ≡ of_index i (cond b (without_level index (levels target h)) (levels target h))
+    go : (b c : Bool) → of_index i (without_level cleared.index (levels target h)) ≡ cond c None (of_index i (levels target h)) →
+        cond (b && c) None (of_index i (levels target h)) ≡ of_index i (cond b (without_level cleared.index (levels target h)) (levels target h))
     go true true f = sym f
     go true false f = sym f
     go false c f = refl
@@ -179,16 +179,16 @@ below-top target (e ∷ before) = go e.event (below-top target before)
   where
     go : (event : Event) → Below (top target before) (levels target before) →
         Below (max (top_here target event) (top target before)) (levels_after target (length before) event (levels target before))
-    go (Event.Level t index names) r = set (same_target target t) r
+    go (Event.Level set_) r = set (same_target target set_.target) r
       where
         set : (b : Bool) → Below (top target before) (levels target before) →
-            Below (max (cond b (index + 1) 0) (top target before)) (cond b (with_level (record { at = length before; index = index; devices = names }) (levels target before)) (levels target before))
+            Below (max (cond b (set_.index + 1) 0) (top target before)) (cond b (with_level (record { at = length before; index = set_.index; devices = set_.devices }) (levels target before)) (levels target before))
         set true r = below-with _ _ (levels target before) (omega arith) (below-higher _ _ (levels target before) (omega arith) r)
         set false r = below-higher _ _ (levels target before) (omega arith) r
-    go (Event.LevelGone t index) r = gone (same_target target t) (below-higher _ (max 0 (top target before)) (levels target before) (omega arith) r)
+    go (Event.LevelGone cleared) r = gone (same_target target cleared.target) (below-higher _ (max 0 (top target before)) (levels target before) (omega arith) r)
       where
-        gone : (b : Bool) → Below (max 0 (top target before)) (levels target before) → Below (max 0 (top target before)) (cond b (without_level index (levels target before)) (levels target before))
-        gone true r = below-without _ index (levels target before) r
+        gone : (b : Bool) → Below (max 0 (top target before)) (levels target before) → Below (max 0 (top target before)) (cond b (without_level cleared.index (levels target before)) (levels target before))
+        gone true r = below-without _ cleared.index (levels target before) r
         gone false r = r
     go _ r = below-higher _ _ (levels target before) (omega arith) r
 

@@ -2,7 +2,7 @@
 use Rattle.std.proofs.Common.{ℕ, List, [], ◌∷◌, Bool, true, false, ◌≡◌, ◌≤◌, ◌+◌, ◌==◌, ◌&&◌, ◌||◌, cond, refl, arith, eq-eqb, Option, Some, None, length}
 use Rattle.std.specs.Prelude.{find, is_some, option_map}
 use Rattle.std.specs.List.{list_any}
-use Rattle.fnc_journal.specs.declared.entry.Event.{Event}
+use Rattle.fnc_journal.specs.declared.event.Event.{Event}
 use Rattle.fnc_journal.specs.declared.entry.Slot.{Slot}
 use Rattle.fnc_journal.specs.History.{History}
 use Rattle.fnc_journal.specs.Missing.{first_of}
@@ -41,15 +41,15 @@ any-find p (x ∷ xs) = go (p x) (any-find p xs)
 -- the runs of a slot, one entry after another
 pub runs-more : (o : ℕ) (s : Slot) (m : ℕ) (event : Event) (h : History) →
     cond (runs_here o s event) (runs s (acts o h) + 1) (runs s (acts o h)) ≡ runs s (acts o (record { moment = m; event = event } ∷ h))
-runs-more o s m (Event.Start run req slot reg kind attempt) h = go (o == req.0) (same_slot s slot) refl
+runs-more o s m (Event.Start start) h = go (o == start.req.0) (same_slot s start.slot) refl
   where
-    go : (b c : Bool) → same_slot s slot ≡ c → cond (b && c) (runs s (acts o h) + 1) (runs s (acts o h)) ≡ runs s (cons_act (cond b (Some (Act.Begun m run.0 slot)) None) (acts o h))
+    go : (b c : Bool) → same_slot s start.slot ≡ c → cond (b && c) (runs s (acts o h) + 1) (runs s (acts o h)) ≡ runs s (cons_act (cond b (Some (Act.Begun m start.run.0 start.slot)) None) (acts o h))
     go true true e = rw e refl
     go true false e = rw e refl
     go false c e = refl
-runs-more o s m (Event.Exit run exit listed) h = go (slot_of_run run.0 (acts o h))
+runs-more o s m (Event.Exit ended) h = go (slot_of_run ended.run.0 (acts o h))
   where
-    go : (x : Option Slot) → runs s (acts o h) ≡ runs s (cons_act (option_map (λ slot. Act.Ended m slot exit listed) x) (acts o h))
+    go : (x : Option Slot) → runs s (acts o h) ≡ runs s (cons_act (option_map (λ slot. Act.Ended m slot ended.exit ended.listed) x) (acts o h))
     go None = refl
     go (Some w) = refl
 runs-more o s m _ h = refl

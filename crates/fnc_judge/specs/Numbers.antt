@@ -1,6 +1,6 @@
 -- How many registrations, requests and runs a journal has.
 use Rattle.std.specs.Prelude.{ℕ, ◌+◌, ◌<◌}
-use Rattle.fnc_journal.specs.declared.entry.Event.{Event}
+use Rattle.fnc_journal.specs.declared.event.Event.{Event}
 use Rattle.fnc_journal.specs.History.{History}
 use Rattle.fnc_journal.specs.Found.{devices, asks, starts}
 use Rattle.fnc_judge.specs.declared.numbers.Numbers.{Numbers}
@@ -11,9 +11,9 @@ IsBelow n t = (t.devices < n) × (t.asks < n) × (t.starts < n)
 
 -- the numbers with one more entry
 abbrev pub numbered : Numbers → Event → Numbers
-numbered t (Event.Device reg registration) = record t { devices = t.devices + 1 }
-numbered t (Event.Ask req lead client kind target total coin scope) = record t { asks = t.asks + 1 }
-numbered t (Event.Start run req slot reg kind attempt) = record t { starts = t.starts + 1 }
+numbered t (Event.Device device) = record t { devices = t.devices + 1 }
+numbered t (Event.Ask ask) = record t { asks = t.asks + 1 }
+numbered t (Event.Start start) = record t { starts = t.starts + 1 }
 numbered t _ = t
 
 -- the numbers of a journal

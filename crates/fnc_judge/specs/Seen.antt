@@ -1,6 +1,6 @@
 -- What the runs of an operation say of a slot, gathered in one record.
 use Rattle.std.specs.Prelude.{ℕ, List, [], ◌∷◌, Bool, false, length, ◌==◌, ◌+◌, ◌||◌, ◌&&◌, not, if◌then◌else◌, min, Option, Some, None, is_some, option_map, unwrap_or}
-use Rattle.fnc_journal.specs.declared.entry.Event.{Event}
+use Rattle.fnc_journal.specs.declared.event.Event.{Event}
 use Rattle.fnc_journal.specs.declared.entry.Exit.{Exit}
 use Rattle.fnc_journal.specs.declared.entry.Slot.{Slot}
 use Rattle.fnc_journal.specs.History.{History}
@@ -15,12 +15,12 @@ use Rattle.fnc_judge.specs.declared.seen.Seen.{Seen}
 
 -- the slot of a run that an entry starts for an operation
 abbrev pub begun_slot : ℕ → ℕ → Event → Option Slot
-begun_slot o n (Event.Start run req slot reg kind attempt) = if (o == req.0) && (n == run.0) then Some slot else None
+begun_slot o n (Event.Start start) = if (o == start.req.0) && (n == start.run.0) then Some start.slot else None
 begun_slot o n _ = None
 
 -- whether an entry starts a run of an operation
 abbrev pub starts_for : ℕ → Event → Bool
-starts_for o (Event.Start run req slot reg kind attempt) = o == req.0
+starts_for o (Event.Start start) = o == start.req.0
 starts_for o _ = false
 
 -- the number of the first entry that does

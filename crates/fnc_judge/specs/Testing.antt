@@ -1,7 +1,7 @@
 -- Parts of the rules of an entry.
 use Rattle.std.specs.Prelude.{ℕ, Bool, false, ◌==◌, ◌&&◌, Option, Some, None}
 use Rattle.fnc_journal.specs.declared.entry.Entry.{Entry}
-use Rattle.fnc_journal.specs.declared.entry.Event.{Event}
+use Rattle.fnc_journal.specs.declared.event.Event.{Event}
 use Rattle.fnc_journal.specs.declared.entry.Kind.{Kind}
 use Rattle.fnc_journal.specs.declared.entry.Slot.{Slot}
 use Rattle.fnc_journal.specs.History.{History}
@@ -21,7 +21,7 @@ pending_after h (Some e) = pending_of e.moment e.event h
 
 -- whether an entry starts a slot of an operation
 abbrev pub runs_here : ℕ → Slot → Event → Bool
-runs_here o s (Event.Start run req slot reg kind attempt) = (o == req.0) && same_slot s slot
+runs_here o s (Event.Start start) = (o == start.req.0) && same_slot s start.slot
 runs_here o s _ = false
 
 -- whether a start has this operation, slot, registration and kind

@@ -7,7 +7,7 @@ ghost use Rattle.fnc_journal.specs.Operations.{lead_of};
 ghost use Rattle.fnc_judge.specs.Led.{lead_here};
 
 use crate::past::Past;
-use fnc_journal::{Entry, Event, Kind, Registration, Scope, Slot};
+use fnc_journal::{Ended, Entry, Event, Kind, Registered, Registration, Reply, Request, Scope, Slot, Start};
 use std::marker::Model;
 
 /// A request: what its entry says, and what lies before it.
@@ -48,10 +48,10 @@ fn registration_here(event: &Event, reg: u32) -> Option<&Registration>
     ensures { option_copied result ≡ Found.registration_here reg event.now }
 {
     match event {
-        Event::Device {
+        Event::Device(Registered {
             reg: number,
             registration,
-        } => {
+        }) => {
             if reg == number.0 {
                 Some(registration)
             } else {
@@ -78,7 +78,7 @@ fn asked_here<'a>(entry: &'a Entry, before: Past<'a>, req: u32) -> Option<Asked<
     ensures { result ≡ Found.asked_here req entry.now.moment before.entry entry.now.event }
 {
     match &entry.event {
-        Event::Ask {
+        Event::Ask(Request {
             req: number,
             lead,
             kind,
@@ -87,7 +87,7 @@ fn asked_here<'a>(entry: &'a Entry, before: Past<'a>, req: u32) -> Option<Asked<
             coin,
             scope,
             ..
-        } => {
+        }) => {
             if req == number.0 {
                 Some(Asked {
                     moment: entry.moment,
@@ -123,11 +123,11 @@ fn lead_in(event: &Event, req: u32) -> Option<u32>
     ensures { result ≡ lead_here req event.now }
 {
     match event {
-        Event::Ask {
+        Event::Ask(Request {
             req: number,
             lead,
             ..
-        } => { if req == number.0 { Some(lead.0) } else { None } }
+        }) => { if req == number.0 { Some(lead.0) } else { None } }
         _ => None,
     }
 }
@@ -148,14 +148,14 @@ fn started_here(event: &Event, run: u32) -> Option<Started>
     ensures { result ≡ Found.started_here run event.now }
 {
     match event {
-        Event::Start {
+        Event::Start(Start {
             run: number,
             req,
             slot,
             reg,
             kind,
             ..
-        } => {
+        }) => {
             if run == number.0 {
                 Some(Started {
                     req: req.0,
@@ -187,7 +187,7 @@ fn is_exit_of(event: &Event, run: u32) -> bool
     ensures { result ≡ Found.is_exit_of run event.now }
 {
     match event {
-        Event::Exit { run: number, .. } => run == number.0,
+        Event::Exit(Ended { run: number, .. }) => run == number.0,
         _ => false,
     }
 }
@@ -208,7 +208,7 @@ fn is_reply_to(event: &Event, req: u32) -> bool
     ensures { result ≡ Found.is_reply_to req event.now }
 {
     match event {
-        Event::Reply { req: number, .. } => req == number.0,
+        Event::Reply(Reply { req: number, .. }) => req == number.0,
         _ => false,
     }
 }

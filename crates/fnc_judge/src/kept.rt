@@ -10,7 +10,7 @@ use crate::found::{Started, request, start_of};
 use crate::past::Past;
 use crate::seen::is_success;
 use crate::task::Device;
-use fnc_journal::{Entry, Event, HostCheck, Kind};
+use fnc_journal::{Ended, Entry, Event, HostCheck, Kind};
 use std::marker::Model;
 
 /// When a list said whether a node is in it.
@@ -56,7 +56,7 @@ fn listing_here(past: &Past<'_>, reg: u32, target: &str, entry: &Entry) -> Optio
     ensures { result ≡ Kept.listing_here reg target.now entry.now.moment past.now entry.now.event }
 {
     match &entry.event {
-        Event::Exit { run, exit, listed } => {
+        Event::Exit(Ended { run, exit, listed }) => {
             if !is_success(Kind::List, *exit) {
                 return None;
             }

@@ -21,15 +21,15 @@ impl Numbers {
         ensures { result ≡ numbered self event.now }
     {
         match event {
-            Event::Device { .. } => Numbers {
+            Event::Device(_) => Numbers {
                 devices: self.devices + 1,
                 ..self
             },
-            Event::Ask { .. } => Numbers {
+            Event::Ask(_) => Numbers {
                 asks: self.asks + 1,
                 ..self
             },
-            Event::Start { .. } => Numbers {
+            Event::Start(_) => Numbers {
                 starts: self.starts + 1,
                 ..self
             },

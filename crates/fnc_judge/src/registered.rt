@@ -12,7 +12,7 @@ fn current_after(earlier: Option<u32>, event: &Event, name: &str) -> Option<u32>
     ensures { result ≡ Registered.current_after name.now event.now earlier }
 {
     match event {
-        Event::Device { reg, registration } => {
+        Event::Device(Registered { reg, registration }) => {
             if registration.name.is(name) {
                 Some(reg.0)
             } else {
@@ -55,7 +55,7 @@ fn named_here(event: &Event, name: &str) -> Option<u32>
     ensures { result ≡ Registered.named_here name.now event.now }
 {
     match event {
-        Event::Device { reg, registration } => {
+        Event::Device(Registered { reg, registration }) => {
             if registration.name.is(name) {
                 Some(reg.0)
             } else {

@@ -26,7 +26,7 @@ use crate::requests::{
 };
 use crate::startable::{Startable, first};
 use crate::survey::pattern_at;
-use fnc_journal::{Answer, Entry, Event, Kind, Rule, Scope, Slot};
+use fnc_journal::{Answer, Ended, Entry, Event, Kind, LevelCleared, Registered, Reply, Request, Rule, Scope, Slot, Start};
 use std::marker::Model;
 
 /// The last entry.
@@ -103,32 +103,32 @@ pub(crate) fn in_order(event: &Event, past: &Past<'_>) -> bool
     ensures { result ≡ Lawful.in_order event.now past.now }
 {
     match event {
-        Event::Device { reg, .. } => reg.0 == counted(past).devices,
+        Event::Device(Registered { reg, .. }) => reg.0 == counted(past).devices,
         Event::Gone { reg } => is_current(past, reg.0),
-        Event::LevelGone { target, index } => {
+        Event::LevelGone(LevelCleared { target, index }) => {
             has_level(past, &Target::of(target), u32::from(*index))
         }
-        Event::Ask {
+        Event::Ask(Request {
             req,
             kind,
             target,
             total,
             scope,
             ..
-        } => {
+        }) => {
             req.0 == counted(past).asks
                 && may_ask(*kind)
                 && 1 <= *total
                 && *total <= 86_400_000
                 && is_in_place(past, *scope, target.as_str())
         }
-        Event::Exit { run, .. } => start_of(past, run.0).is_some(),
-        Event::Start { run, req, reg, .. } => {
+        Event::Exit(Ended { run, .. }) => start_of(past, run.0).is_some(),
+        Event::Start(Start { run, req, reg, .. }) => {
             run.0 == counted(past).starts
                 && is_operation(past, req.0)
                 && registration(past, reg.0).is_some()
         }
-        Event::Reply { req, .. } => request(past, req.0).is_some(),
+        Event::Reply(Reply { req, .. }) => request(past, req.0).is_some(),
         _ => true,
     }
 }
@@ -153,7 +153,7 @@ pub(crate) fn exit(entry: &Entry, past: &Past<'_>) -> bool
     ensures { result ≡ Lawful.exit entry.now past.now }
 {
     match &entry.event {
-        Event::Exit { run, .. } => is_alive(past, run.0),
+        Event::Exit(Ended { run, .. }) => is_alive(past, run.0),
         _ => true,
     }
 }
@@ -162,11 +162,11 @@ fn is_run_of(event: &Event, req: u32, slot: Slot) -> bool
     ensures { result ≡ runs_here req slot event.now }
 {
     match event {
-        Event::Start {
+        Event::Start(Start {
             req: other,
             slot: here,
             ..
-        } => req == other.0 && slot.is(*here),
+        }) => req == other.0 && slot.is(*here),
         _ => false,
     }
 }
@@ -229,14 +229,14 @@ pub(crate) fn start(entry: &Entry, past: &Past<'_>) -> bool
     ensures { result ≡ Lawful.start entry.now past.now }
 {
     match &entry.event {
-        Event::Start {
+        Event::Start(Start {
             req,
             slot,
             reg,
             kind,
             attempt,
             ..
-        } => is_start_of(
+        }) => is_start_of(
             past,
             req.0,
             *slot,
@@ -269,7 +269,7 @@ fn pending_of(past: &Past<'_>, entry: &Entry) -> Option<Pending>
     ensures { result ≡ Lawful.pending_of entry.now.moment entry.now.event past.now }
 {
     match &entry.event {
-        Event::Reply { req, answer } => {
+        Event::Reply(Reply { req, answer }) => {
             let operation = lead(past, req.0)?;
             if is_open(past, operation) {
                 Some(Pending {
@@ -319,7 +319,7 @@ fn continues(pending: Option<Pending>, entry: &Entry, past: &Past<'_>) -> bool
 {
     match (pending, &entry.event) {
         (None, _) => true,
-        (Some(pending), Event::Reply { req, answer }) => {
+        (Some(pending), Event::Reply(Reply { req, answer })) => {
             lead(past, req.0) == Some(pending.operation)
                 && same_answer(*answer, pending.answer)
                 && entry.moment == pending.moment
@@ -332,7 +332,7 @@ fn is_first_reply(event: &Event, past: &Past<'_>) -> bool
     ensures { result ≡ Lawful.is_first_reply event.now past.now }
 {
     match event {
-        Event::Reply { req, .. } => !is_answered(past, req.0),
+        Event::Reply(Reply { req, .. }) => !is_answered(past, req.0),
         _ => true,
     }
 }
@@ -401,7 +401,7 @@ pub(crate) fn reply(entry: &Entry, past: &Past<'_>) -> bool
     ensures { result ≡ Lawful.reply entry.now past.now }
 {
     match &entry.event {
-        Event::Reply { req, answer } => is_reply_due(past, entry.moment, req.0, *answer),
+        Event::Reply(Reply { req, answer }) => is_reply_due(past, entry.moment, req.0, *answer),
         _ => true,
     }
 }
@@ -425,13 +425,13 @@ fn leads(entry: &Entry, past: &Past<'_>) -> bool
     ensures { result ≡ Lawful.leads entry.now.event entry.now.moment past.now }
 {
     match &entry.event {
-        Event::Ask {
+        Event::Ask(Request {
             req,
             lead,
             kind,
             target,
             ..
-        } => lead.0 == lead_wanted(past, entry.moment, *kind, target.as_str(), req.0),
+        }) => lead.0 == lead_wanted(past, entry.moment, *kind, target.as_str(), req.0),
         _ => true,
     }
 }
@@ -440,7 +440,7 @@ fn is_input(event: &Event) -> bool
     ensures { result ≡ Found.is_input event.now }
 {
     match event {
-        Event::Start { .. } | Event::Reply { .. } => false,
+        Event::Start(_) | Event::Reply(_) => false,
         _ => true,
     }
 }

@@ -10,7 +10,7 @@ ghost use Rattle.fnc_judge.specs.Seen.{answered_by, begun_slot, concluded_at_by,
 
 use crate::past::Past;
 use crate::task::Task;
-use fnc_journal::{Entry, Event, Exit, Kind, Slot};
+use fnc_journal::{Ended, Entry, Event, Exit, Kind, Slot, Start};
 
 /// The last run of a slot.
 #[derive(Clone, Copy)]
@@ -38,12 +38,12 @@ fn slot_after(earlier: Option<Slot>, event: &Event, req: u32, run: u32) -> Optio
     match (earlier, event) {
         (
             None,
-            Event::Start {
+            Event::Start(Start {
                 run: number,
                 req: other,
                 slot,
                 ..
-            },
+            }),
         ) if req == other.0 && run == number.0 => Some(*slot),
         _ => earlier,
     }
@@ -205,19 +205,19 @@ impl Seen {
         ensures { result ≡ seen_with task.now over self (Acts.act_here req entry.now.moment (Acts.acts req before.now) entry.now.event) }
     {
         match &entry.event {
-            Event::Start {
+            Event::Start(Start {
                 run,
                 req: other,
                 slot,
                 ..
-            } => {
+            }) => {
                 if req == other.0 {
                     self.begun(task, entry.moment, run.0, *slot)
                 } else {
                     self
                 }
             }
-            Event::Exit { run, exit, listed } => match slot_of_run(before, req, run.0) {
+            Event::Exit(Ended { run, exit, listed }) => match slot_of_run(before, req, run.0) {
                 Some(slot) => self.ended(task, over, entry.moment, slot, *exit, *listed),
                 None => self,
             },
@@ -310,7 +310,7 @@ fn is_start_for(event: &Event, req: u32) -> bool
     ensures { result ≡ starts_for req event.now }
 {
     match event {
-        Event::Start { req: other, .. } => req == other.0,
+        Event::Start(Start { req: other, .. }) => req == other.0,
         _ => false,
     }
 }

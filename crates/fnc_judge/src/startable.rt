@@ -43,7 +43,7 @@ fn is_alive_in(past: &Past<'_>, number: u32, event: &Event) -> bool
     ensures { result ≡ counts_here past.now number event.now }
 {
     match event {
-        Event::Start { run, reg, .. } => counts_by(past, number, run.0, reg.0),
+        Event::Start(Start { run, reg, .. }) => counts_by(past, number, run.0, reg.0),
         _ => false,
     }
 }

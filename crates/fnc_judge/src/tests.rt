@@ -1,11 +1,7 @@
 // Lawful journals, and journals with one entry that breaks a rule.
 
 use crate::{Verdict, judge};
-use fnc_journal::{
-    Actions, Allowed, Answer, Base, Definition, Entry, Event, Exit, HostCheck, Journal, Kind,
-    LevelTarget, Names, NoMemory, Pairs, Phase, Reg, Registration, Req, Rule, Run, Scope, Slot,
-    Text,
-};
+use fnc_journal::{Actions, Allowed, Answer, Base, Definition, Ended, Entry, Event, Exit, HostCheck, Journal, Kind, LevelSet, LevelTarget, Names, NoMemory, Pairs, Phase, Reg, Registered, Registration, Reply, Req, Request, Rule, Run, Scope, Slot, Start, Text};
 use std::alloc::Global;
 use std::test::Fail;
 
@@ -55,10 +51,10 @@ fn registration(alloc: Global, name: &str) -> Result<Registration, NoMemory> {
 
 fn device(alloc: Global, reg: u32, name: &str) -> Result<Event, NoMemory> {
     let registration = registration(alloc, name)?;
-    Ok(Event::Device {
+    Ok(Event::Device(Registered {
         reg: Reg(reg),
         registration,
-    })
+    }))
 }
 
 /// Level 1 of a node, with two devices.
@@ -67,11 +63,11 @@ fn level(alloc: Global, target: &str, first: &str, second: &str) -> Result<Event
     devices.push(Text::new(alloc, first)?)?;
     devices.push(Text::new(alloc, second)?)?;
     let target = Text::new(alloc, target)?;
-    Ok(Event::Level {
+    Ok(Event::Level(LevelSet {
         target: LevelTarget::Name(target),
         index: 1,
         devices,
-    })
+    }))
 }
 
 fn ask(
@@ -84,7 +80,7 @@ fn ask(
 ) -> Result<Event, NoMemory> {
     let client = Text::new(alloc, "c1")?;
     let target = Text::new(alloc, target)?;
-    Ok(Event::Ask {
+    Ok(Event::Ask(Request {
         req: Req(req),
         lead: Req(lead),
         client,
@@ -93,12 +89,12 @@ fn ask(
         total: 600_000,
         coin: 0,
         scope,
-    })
+    }))
 }
 
 /// A start of a slot of level 1, whose device has this place and registration.
 fn start(run: u32, req: u32, phase: Phase, place: u8, reg: u32, kind: Kind) -> Event {
-    Event::Start {
+    Event::Start(Start {
         run: Run(run),
         req: Req(req),
         slot: Slot {
@@ -109,22 +105,22 @@ fn start(run: u32, req: u32, phase: Phase, place: u8, reg: u32, kind: Kind) -> E
         reg: Reg(reg),
         kind,
         attempt: 1,
-    }
+    })
 }
 
 fn exit(run: u32) -> Event {
-    Event::Exit {
+    Event::Exit(Ended {
         run: Run(run),
         exit: Exit::Code(0),
         listed: false,
-    }
+    })
 }
 
 fn reply(req: u32, answer: Answer) -> Event {
-    Event::Reply {
+    Event::Reply(Reply {
         req: Req(req),
         answer,
-    }
+    })
 }
 
 /// Adds an entry, where the journal has fewer than so many.

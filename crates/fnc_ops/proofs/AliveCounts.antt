@@ -2,7 +2,7 @@
 use Rattle.std.proofs.Common.{ℕ, List, [], ◌∷◌, ◌++◌, Bool, true, false, ◌≡◌, ◌<◌, ◌≤◌, ◌+◌, ◌-◌, ◌==◌, refl, ap, sym, ◌∙◌, subst, Option, Some, None, cond, not, is_some, arith, length, eqb-true, eq-eqb, ne_eqb, IsTrue, ◌||◌}
 use Rattle.std.specs.Prelude.{filter, find}
 use Rattle.std.specs.List.{list_any, AllByRecursion}
-use Rattle.fnc_journal.specs.declared.entry.Event.{Event}
+use Rattle.fnc_journal.specs.declared.event.Event.{Event}
 use Rattle.fnc_journal.specs.declared.entry.Exit.{Exit}
 use Rattle.fnc_journal.specs.declared.entry.Kind.{Kind}
 use Rattle.fnc_journal.specs.declared.entry.Reg.{Reg}
@@ -34,9 +34,9 @@ begun-small (e ∷ before) l = go e.event (in_order-of e.moment e.event before l
   where
     go : (event : Event) → IsTrue (in_order event before) → AllByRecursion (λ (b : Begun). b.run < starts before) (begun_runs before) →
         AllByRecursion (λ (b : Begun). b.run < starts (record { moment = e.moment; event = event } ∷ before)) (append_some (begun_runs before) (begun_here event))
-    go (Event.Start run req slot reg kind attempt) i a =
-        let same : run.0 ≡ starts before = eqb-true run.0 (starts before) (and-left _ _ (and-left _ _ i)) in
-        each-append (λ (b : Begun). b.run < starts before + 1) (begun_runs before) (record { run = run.0; reg = reg.0 })
+    go (Event.Start start) i a =
+        let same : start.run.0 ≡ starts before = eqb-true start.run.0 (starts before) (and-left _ _ (and-left _ _ i)) in
+        each-append (λ (b : Begun). b.run < starts before + 1) (begun_runs before) (record { run = start.run.0; reg = start.reg.0 })
         (each-map (λ (b : Begun). b.run < starts before) (λ (b : Begun). b.run < starts before + 1) (begun_runs before) (λ b k. omega (arith, k)) a) (omega (arith, same))
     go _ i a = a
 
@@ -45,10 +45,10 @@ begun-apart [] l = tt
 begun-apart (e ∷ before) l = go e.event (in_order-of e.moment e.event before l.0.ordered) (begun-apart before l.1)
   where
     go : (event : Event) → IsTrue (in_order event before) → AreApart run_of (begun_runs before) → AreApart run_of (append_some (begun_runs before) (begun_here event))
-    go (Event.Start run req slot reg kind attempt) i d =
-        let same : run.0 ≡ starts before = eqb-true run.0 (starts before) (and-left _ _ (and-left _ _ i)) in
-        apart-append run_of (begun_runs before) (record { run = run.0; reg = reg.0 })
-        (each-map (λ (b : Begun). b.run < starts before) (λ (b : Begun). (run.0 == b.run) ≡ false) (begun_runs before) (λ b k. ne_eqb run.0 b.run (λ g. omega (arith, k, same, g))) (begun-small before l.1)) d
+    go (Event.Start start) i d =
+        let same : start.run.0 ≡ starts before = eqb-true start.run.0 (starts before) (and-left _ _ (and-left _ _ i)) in
+        apart-append run_of (begun_runs before) (record { run = start.run.0; reg = start.reg.0 })
+        (each-map (λ (b : Begun). b.run < starts before) (λ (b : Begun). (start.run.0 == b.run) ≡ false) (begun_runs before) (λ b k. ne_eqb start.run.0 b.run (λ g. omega (arith, k, same, g))) (begun-small before l.1)) d
     go _ i d = d
 
 pub alive-apart : (h : History) → Lawful h → AreApart run_of (alive_runs h)

@@ -3,7 +3,7 @@ use Rattle.std.proofs.Common.{ℕ, List, [], ◌∷◌, ◌++◌, Bool, true, fa
 use Rattle.std.proofs.lemmas.Bool.{leb-true}
 use Rattle.std.specs.Prelude.{option_map, option_and_then, unwrap_or}
 use Rattle.std.specs.List.{AllByRecursion}
-use Rattle.fnc_journal.specs.declared.entry.Event.{Event}
+use Rattle.fnc_journal.specs.declared.event.Event.{Event}
 use Rattle.fnc_journal.specs.declared.entry.Slot.{Slot}
 use Rattle.fnc_journal.specs.History.{History}
 use Rattle.fnc_journal.specs.Missing.{or_here, least_of}
@@ -116,14 +116,14 @@ abbrev most : ℕ
 most = 1_000_000_000_000_000
 
 acts-more : (o m k : ℕ) (event : Event) (xs : List Act) → m ≤ k → ArePast k xs → ArePast k (cons_act (act_here o m xs event) xs)
-acts-more o m k (Event.Start run req slot reg kind attempt) xs le a = go (o == req.0)
+acts-more o m k (Event.Start start) xs le a = go (o == start.req.0)
   where
-    go : (b : Bool) → ArePast k (cons_act (cond b (Some (Act.Begun m run.0 slot)) None) xs)
+    go : (b : Bool) → ArePast k (cons_act (cond b (Some (Act.Begun m start.run.0 start.slot)) None) xs)
     go true = (le, a)
     go false = a
-acts-more o m k (Event.Exit run exit listed) xs le a = go (slot_of_run run.0 xs)
+acts-more o m k (Event.Exit ended) xs le a = go (slot_of_run ended.run.0 xs)
   where
-    go : (x : Option Slot) → ArePast k (cons_act (option_map (λ slot. Act.Ended m slot exit listed) x) xs)
+    go : (x : Option Slot) → ArePast k (cons_act (option_map (λ slot. Act.Ended m slot ended.exit ended.listed) x) xs)
     go None = a
     go (Some s) = (le, a)
 acts-more o m k _ xs le a = a
@@ -143,9 +143,9 @@ asked-more None (Some y) a b = b
 asked-more (Some x) (Some y) a b = a
 
 asked-here : (r m : ℕ) (before : History) (event : Event) → m ≤ most → CameEarly (asked_here r m before event)
-asked-here r m before (Event.Ask req lead client kind target total coin scope) le = go (r == req.0)
+asked-here r m before (Event.Ask ask) le = go (r == ask.req.0)
   where
-    go : (b : Bool) → CameEarly (cond b (Some (record { moment = m; lead = lead.0; kind = kind; target = target; total = total; coin = coin; scope = scope; before = before })) None)
+    go : (b : Bool) → CameEarly (cond b (Some (record { moment = m; lead = ask.lead.0; kind = ask.kind; target = ask.target; total = ask.total; coin = ask.coin; scope = ask.scope; before = before })) None)
     go true = le
     go false = tt
 asked-here r m before _ le = tt

@@ -2,7 +2,7 @@
 use Rattle.std.proofs.Common.{ℕ, List, [], ◌∷◌, Bool, true, false, ◌≡◌, ◌==◌, refl, sym, subst, Option, Some, None, IsTrue, cond, arith, eqb-true, ne_eqb}
 use Rattle.std.specs.Prelude.{filter, filter_map}
 use Rattle.std.specs.List.{AllByRecursion, cons_option}
-use Rattle.fnc_journal.specs.declared.entry.Event.{Event}
+use Rattle.fnc_journal.specs.declared.event.Event.{Event}
 use Rattle.fnc_journal.specs.History.{History}
 use Rattle.fnc_journal.specs.Missing.{append_some}
 use Rattle.fnc_journal.specs.Found.{asks}
@@ -48,13 +48,13 @@ operations-apart [] l = tt
 operations-apart (e ∷ before) l = go e.event (in_order-of e.moment e.event before l.0.ordered) (operations-apart before l.1)
   where
     go : (event : Event) → IsTrue (in_order event before) → AreApart (λ o. o) (operations before) → AreApart (λ o. o) (append_some (operations before) (operation_here event))
-    go (Event.Ask req lead client kind target total coin scope) i d = ask (req.0 == lead.0)
+    go (Event.Ask ask_) i d = ask (ask_.req.0 == ask_.lead.0)
       where
-        next : req.0 ≡ asks before
-        next = eqb-true req.0 (asks before) (and-left _ _ (and-left _ _ (and-left _ _ (and-left _ _ i))))
+        next : ask_.req.0 ≡ asks before
+        next = eqb-true ask_.req.0 (asks before) (and-left _ _ (and-left _ _ (and-left _ _ (and-left _ _ i))))
 
-        ask : (b : Bool) → AreApart (λ o. o) (append_some (operations before) (cond b (Some req.0) None))
-        ask true = apart-append (λ o. o) (operations before) req.0 (each-map _ _ (operations before) (λ o k. ne_eqb req.0 o (λ g. omega (arith, k, next, g))) (operations-small before l.1)) d
+        ask : (b : Bool) → AreApart (λ o. o) (append_some (operations before) (cond b (Some ask_.req.0) None))
+        ask true = apart-append (λ o. o) (operations before) ask_.req.0 (each-map _ _ (operations before) (λ o k. ne_eqb ask_.req.0 o (λ g. omega (arith, k, next, g))) (operations-small before l.1)) d
         ask false = d
     go _ i d = d
 

@@ -1,7 +1,7 @@
 -- The levels of a plan rise by their numbers, and their slots are distinct.
 use Rattle.std.proofs.Common.{ℕ, List, [], ◌∷◌, Bool, true, false, ◌≡◌, ◌≤◌, ◌+◌, ◌==◌, refl, sym, subst, Option, Some, None, cond, map, nat_lt, length, arith, eqb-true, false-eqb}
 use Rattle.std.proofs.lemmas.Bool.Decides.{nat_tests}
-use Rattle.fnc_journal.specs.declared.entry.Event.{Event}
+use Rattle.fnc_journal.specs.declared.event.Event.{Event}
 use Rattle.fnc_journal.specs.declared.entry.Kind.{Kind}
 use Rattle.fnc_journal.specs.declared.entry.LevelTarget.{LevelTarget}
 use Rattle.fnc_journal.specs.declared.entry.Scope.{Scope}
@@ -56,15 +56,15 @@ levels-from target [] = tt
 levels-from target (e ∷ before) = go e.event (levels-from target before)
   where
     go : (event : Event) → AreFrom 0 (levels target before) → AreFrom 0 (levels_after target (length before) event (levels target before))
-    go (Event.Level t index names) a = set (same_target target t)
+    go (Event.Level set_) a = set (same_target target set_.target)
       where
-        set : (b : Bool) → AreFrom 0 (cond b (with_level (record { at = length before; index = index; devices = names }) (levels target before)) (levels target before))
-        set true = from-with 0 (record { at = length before; index = index; devices = names }) (levels target before) (omega arith) a
+        set : (b : Bool) → AreFrom 0 (cond b (with_level (record { at = length before; index = set_.index; devices = set_.devices }) (levels target before)) (levels target before))
+        set true = from-with 0 (record { at = length before; index = set_.index; devices = set_.devices }) (levels target before) (omega arith) a
         set false = a
-    go (Event.LevelGone t index) a = set (same_target target t)
+    go (Event.LevelGone cleared) a = set (same_target target cleared.target)
       where
-        set : (b : Bool) → AreFrom 0 (cond b (without_level index (levels target before)) (levels target before))
-        set true = from-without 0 index (levels target before) a
+        set : (b : Bool) → AreFrom 0 (cond b (without_level cleared.index (levels target before)) (levels target before))
+        set true = from-without 0 cleared.index (levels target before) a
         set false = a
     go _ a = a
 

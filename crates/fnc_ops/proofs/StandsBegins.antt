@@ -3,7 +3,7 @@ use Rattle.std.proofs.Common.{ℕ, List, [], ◌∷◌, ◌++◌, Bool, true, fa
 use Rattle.std.proofs.Math.Bool.{and-false}
 use Rattle.std.specs.Prelude.{find, option_and_then, OnOk, OnErr, Result, Ok, Err}
 use Rattle.std.specs.List.{AllZip, AllByRecursion}
-use Rattle.fnc_journal.specs.declared.entry.Event.{Event}
+use Rattle.fnc_journal.specs.declared.event.Event.{Event}
 use Rattle.fnc_journal.specs.declared.plan.Plan.{Plan}
 use Rattle.fnc_journal.specs.declared.outcome.NoMemory.{NoMemory}
 use Rattle.fnc_journal.specs.History.{History}
@@ -42,7 +42,7 @@ unasked_unconfirmed (e ∷ before) l o k = ap₂ ◌||◌ (go e.event) (unasked_
     less false m = m
 
     go : (event : Event) → confirms o before event ≡ false
-    go (Event.Confirm client target) = ap (λ (x : Option Asked). bytes_eq o.target target && is_some x) (fresh_ask before l.1 o.req (less (is_ask e.event) k)) ∙ and-false (bytes_eq o.target target)
+    go (Event.Confirm confirmation) = ap (λ (x : Option Asked). bytes_eq o.target confirmation.target && is_some x) (fresh_ask before l.1 o.req (less (is_ask e.event) k)) ∙ and-false (bytes_eq o.target confirmation.target)
     go _ = refl
 
 -- the operation of a request that begins it

@@ -3,7 +3,7 @@ use Rattle.std.proofs.Common.{ℕ, List, [], ◌∷◌, Bool, true, false, ◌�
 use Rattle.std.proofs.lemmas.Bool.{not-true}
 use Rattle.std.specs.Prelude.{option_map}
 use Rattle.std.specs.List.{AllZip, list_all}
-use Rattle.fnc_journal.specs.declared.entry.Event.{Event}
+use Rattle.fnc_journal.specs.declared.event.Event.{Event}
 use Rattle.fnc_journal.specs.declared.entry.Exit.{Exit}
 use Rattle.fnc_journal.specs.declared.entry.Run.{Run}
 use Rattle.fnc_journal.specs.declared.entry.Slot.{Slot}
@@ -39,9 +39,9 @@ abbrev pub run_start : Started → RunStart
 run_start s = record { req = record { 0 = s.req }; slot = s.slot }
 
 start_here-started : (n : ℕ) (event : Event) → start_here n event ≡ option_map run_start (started_here n event)
-start_here-started n (Event.Start run req slot reg kind attempt) = go (n == run.0)
+start_here-started n (Event.Start start) = go (n == start.run.0)
   where
-    go : (b : Bool) → cond b (Some (record { req = req; slot = slot })) None ≡ option_map run_start (cond b (Some (record { req = req.0; slot = slot; reg = reg.0; kind = kind })) None)
+    go : (b : Bool) → cond b (Some (record { req = start.req; slot = start.slot })) None ≡ option_map run_start (cond b (Some (record { req = start.req.0; slot = start.slot; reg = start.reg.0; kind = start.kind })) None)
     go true = refl
     go false = refl
 start_here-started n _ = refl
@@ -79,15 +79,15 @@ own-run (e ∷ before) l n st f = go (started n before) refl f (λ x k. own-run 
         let none : option_map (λ (s : Started). s.req) (started n before) ≡ None = ap (option_map (λ (s : Started). s.req)) k in cc
 
     here : (event : Event) → started n before ≡ None → started_here n event ≡ Some st → slot_of_run n (cons_act (act_here st.req e.moment (acts st.req before) event) (acts st.req before)) ≡ Some st.slot
-    here (Event.Start run req slot reg kind attempt) k g = this (n == run.0) refl g
+    here (Event.Start start) k g = this (n == start.run.0) refl g
       where
-        this : (b : Bool) → (n == run.0) ≡ b → cond b (Some (record { req = req.0; slot = slot; reg = reg.0; kind = kind })) None ≡ Some st →
-            slot_of_run n (cons_act (act_here st.req e.moment (acts st.req before) (Event.Start run req slot reg kind attempt)) (acts st.req before)) ≡ Some st.slot
+        this : (b : Bool) → (n == start.run.0) ≡ b → cond b (Some (record { req = start.req.0; slot = start.slot; reg = start.reg.0; kind = start.kind })) None ≡ Some st →
+            slot_of_run n (cons_act (act_here st.req e.moment (acts st.req before) (Event.Start start)) (acts st.req before)) ≡ Some st.slot
         this true t g =
-            let same : record { req = req.0; slot = slot; reg = reg.0; kind = kind } ≡ st = some_started _ st g in
-            subst (λ (w : Started). slot_of_run n (cons_act (act_here w.req e.moment (acts w.req before) (Event.Start run req slot reg kind attempt)) (acts w.req before)) ≡ Some w.slot) same
-            (let self : (req.0 == req.0) ≡ true = eq-eqb req.0 req.0 refl in
-            let none : slot_of_run n (acts req.0 before) ≡ None = none_yet k req.0 (slot_of_run n (acts req.0 before)) refl in
+            let same : record { req = start.req.0; slot = start.slot; reg = start.reg.0; kind = start.kind } ≡ st = some_started _ st g in
+            subst (λ (w : Started). slot_of_run n (cons_act (act_here w.req e.moment (acts w.req before) (Event.Start start)) (acts w.req before)) ≡ Some w.slot) same
+            (let self : (start.req.0 == start.req.0) ≡ true = eq-eqb start.req.0 start.req.0 refl in
+            let none : slot_of_run n (acts start.req.0 before) ≡ None = none_yet k start.req.0 (slot_of_run n (acts start.req.0 before)) refl in
             rw (self, t, none) refl)
         this false t g = cc
     here _ k g = cc

@@ -8,7 +8,7 @@ use Rattle.fnc_ops.specs.KeptOperation.{KeptOperation}
 use Rattle.fnc_ops.specs.Kept.{Kept}
 use Rattle.fnc_ops.specs.SlotRecords.{capped}
 use Rattle.fnc_ops.specs.OperationRecords as OperationRecords
-use Rattle.fnc_journal.specs.declared.entry.Event.{Event}
+use Rattle.fnc_journal.specs.declared.event.Event.{Event}
 use Rattle.fnc_journal.specs.declared.entry.Exit.{Exit}
 use Rattle.fnc_journal.specs.declared.entry.Req.{Req}
 use Rattle.fnc_journal.specs.History.{History}
@@ -71,7 +71,7 @@ started req m v = record { operations = map (OperationRecords.only req (Operatio
 
 -- the operation and the slot of a run, as an entry says
 abbrev pub start_here : ℕ → Event → Option RunStart
-start_here n (Event.Start run req slot reg kind attempt) = if n == run.0 then Some (record { req = req; slot = slot }) else None
+start_here n (Event.Start start) = if n == start.run.0 then Some (record { req = start.req; slot = start.slot }) else None
 start_here n _ = None
 
 -- as the journal says

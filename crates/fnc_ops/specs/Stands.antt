@@ -2,7 +2,7 @@
 use Rattle.std.specs.Prelude.{ℕ, List, ◌≡◌, ◌==◌, Bool, true, map, find, Option, Some, None, option_map, option_and_then, [], ◌∷◌, ◌≤◌, nat_lt, if◌then◌else◌, length, ◌+◌}
 use Rattle.std.specs.List.{AllZip, AllByRecursion}
 use Rattle.fnc_journal.specs.declared.entry.Entry.{Entry}
-use Rattle.fnc_journal.specs.declared.entry.Event.{Event}
+use Rattle.fnc_journal.specs.declared.event.Event.{Event}
 use Rattle.fnc_journal.specs.declared.entry.Kind.{Kind}
 use Rattle.fnc_journal.specs.declared.entry.Reg.{Reg}
 use Rattle.fnc_journal.specs.declared.entry.Req.{Req}
@@ -83,19 +83,19 @@ AreFewDevices ls = AllByRecursion (λ l. length l.devices ≤ 8) ls
 
 -- the entry of a start
 abbrev pub start_entry : ℕ → Run → Req → Slot → Reg → Kind → ℕ → Entry
-start_entry m run req slot reg kind attempt = record { moment = m; event = Event.Start run req slot reg kind attempt }
+start_entry m run req slot reg kind attempt = record { moment = m; event = Event.Start (record { run = run; req = req; slot = slot; reg = reg; kind = kind; attempt = attempt }) }
 
 -- the entry of an operator's word
 abbrev pub confirm_entry : ℕ → List ℕ → List ℕ → Entry
-confirm_entry m client target = record { moment = m; event = Event.Confirm client target }
+confirm_entry m client target = record { moment = m; event = Event.Confirm (record { client = client; target = target }) }
 
 -- the entry of an exit
 abbrev pub exit_entry : ℕ → Run → Exit → Bool → Entry
-exit_entry m run exit listed = record { moment = m; event = Event.Exit run exit listed }
+exit_entry m run exit listed = record { moment = m; event = Event.Exit (record { run = run; exit = exit; listed = listed }) }
 
 -- the entry of a reply
 abbrev pub reply_entry : ℕ → Req → Answer → Entry
-reply_entry m req answer = record { moment = m; event = Event.Reply req answer }
+reply_entry m req answer = record { moment = m; event = Event.Reply (record { req = req; answer = answer }) }
 
 -- the least request that waits for the operation of a number, if that is open
 abbrev pub next_of : History → ℕ → Option ℕ
@@ -182,7 +182,7 @@ AreBounded h = (n : ℕ) (r : Registration) → registration n h ≡ Some r → 
 
 -- the entry of a request
 abbrev pub ask_entry : ℕ → Req → Req → List ℕ → Kind → List ℕ → ℕ → ℕ → Scope → Entry
-ask_entry m req lead client kind target total coin scope = record { moment = m; event = Event.Ask req lead client kind target total coin scope }
+ask_entry m req lead client kind target total coin scope = record { moment = m; event = Event.Ask (record { req = req; lead = lead; client = client; kind = kind; target = target; total = total; coin = coin; scope = scope }) }
 
 -- how many records speak at an earlier moment
 abbrev pub behind : ℕ → List KeptOperation → ℕ

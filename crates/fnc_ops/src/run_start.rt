@@ -4,7 +4,7 @@ ghost use Rattle.std.specs.Prelude.{◌≡◌};
 ghost use Rattle.fnc_journal.specs.Missing as Missing;
 ghost use Rattle.fnc_ops.specs.OpsRecords as OpsRecords;
 
-use fnc_journal::{Event, Journal, Req, Run, Slot};
+use fnc_journal::{Event, Journal, Req, Run, Slot, Start};
 
 /// Of which operation and slot a run was started.
 #[derive(Clone, Copy, Debug)]
@@ -17,12 +17,12 @@ fn start_here(event: &Event, run: Run) -> Option<RunStart>
     ensures { result ≡ OpsRecords.start_here run.0 event.now }
 {
     match event {
-        Event::Start {
+        Event::Start(Start {
             run: r,
             req,
             slot,
             ..
-        } => {
+        }) => {
             if run.0 == r.0 {
                 Some(RunStart {
                     req: *req,

@@ -5,11 +5,7 @@ ghost use Rattle.std.specs.Prelude.{◌≡◌, IfOk};
 use crate::begin::fresh_operation;
 use crate::operation::OperationRecord;
 use crate::ops::{Operation, Ops};
-use fnc_journal::{
-    Actions, Allowed, Answer, Base, Candidate, Candidates, Definition, Entry, Event, HostCheck,
-    Journal, Kind, Levels, Names, NoMemory, Pairs, Phase, Places, Plan, PlanLevel, Reg,
-    Registration, Req, Scope, Slot, Text,
-};
+use fnc_journal::{Actions, Allowed, Answer, Base, Candidate, Candidates, Definition, Entry, Event, HostCheck, Journal, Kind, Levels, Names, NoMemory, Pairs, Phase, Places, Plan, PlanLevel, Reg, Registered, Registration, Req, Scope, Slot, Text};
 use std::alloc::Global;
 use std::test::Fail;
 
@@ -63,14 +59,14 @@ fn device(alloc: Global, reg: u32, on: bool) -> Result<Entry, NoMemory> {
     };
     Ok(Entry {
         moment: 0,
-        event: Event::Device {
+        event: Event::Device(Registered {
             reg: Reg(reg),
             registration: Registration {
                 name: Text::new(alloc, "d")?,
                 agent: Text::new(alloc, "fence_x")?,
                 definition,
             },
-        },
+        }),
     })
 }
 

@@ -3,7 +3,7 @@ use Rattle.std.proofs.Common.{ℕ, List, [], ◌∷◌, ◌++◌, Bool, true, fa
 use Rattle.std.specs.Prelude.{◌⊎◌}
 use Rattle.std.specs.List.{AllByRecursion}
 use Rattle.fnc_journal.specs.declared.entry.Entry.{Entry}
-use Rattle.fnc_journal.specs.declared.entry.Event.{Event}
+use Rattle.fnc_journal.specs.declared.event.Event.{Event}
 use Rattle.fnc_journal.specs.declared.outcome.Full.{Full}
 use Rattle.fnc_journal.specs.declared.outcome.Outcome.{Outcome}
 use Rattle.fnc_journal.specs.History.{History, Journaled}
@@ -24,18 +24,18 @@ use Rattle.fnc_outside.specs.Events.{Happening}
 use Rattle.fnc_outside.proofs.Telling.{then-rose}
 
 start-no_input : (event : Event) → is_start event ≡ true → is_input event ≡ false
-start-no_input (Event.Start run req slot reg kind attempt) q = refl
-start-no_input (Event.Device reg registration) q = cc
+start-no_input (Event.Start start) q = refl
+start-no_input (Event.Device device) q = cc
 start-no_input (Event.Gone reg) q = cc
-start-no_input (Event.Level target index devices) q = cc
-start-no_input (Event.LevelGone target index) q = cc
-start-no_input (Event.Agent name description) q = cc
-start-no_input (Event.Ask req lead client kind target total coin scope) q = cc
-start-no_input (Event.Exit run exit listed) q = cc
+start-no_input (Event.Level set) q = cc
+start-no_input (Event.LevelGone cleared) q = cc
+start-no_input (Event.Agent described) q = cc
+start-no_input (Event.Ask ask) q = cc
+start-no_input (Event.Exit ended) q = cc
 start-no_input Event.Pass q = cc
-start-no_input (Event.Confirm client target) q = cc
-start-no_input (Event.Refused line cause) q = cc
-start-no_input (Event.Reply req answer) q = cc
+start-no_input (Event.Confirm confirmation) q = cc
+start-no_input (Event.Refused refusal) q = cc
+start-no_input (Event.Reply reply) q = cc
 
 -- outputs of one moment
 abbrev pub AreOutputs : ℕ → History → Type 0
@@ -72,18 +72,18 @@ replies-none m [] l a = refl
 replies-none m (r ∷ rs) l a = absurd (go rs (replies-none m rs l.1 a.1) r.event (in_order-of r.moment r.event rs l.0.ordered) a.0.0)
   where
     go : (before : History) → before ≡ [] → (event : Event) → IsTrue (in_order event before) → is_reply event ≡ true → ⊥
-    go [] e (Event.Reply req answer) i q = cc
-    go [] e (Event.Device reg registration) i q = cc
+    go [] e (Event.Reply reply) i q = cc
+    go [] e (Event.Device device) i q = cc
     go [] e (Event.Gone reg) i q = cc
-    go [] e (Event.Level target index devices) i q = cc
-    go [] e (Event.LevelGone target index) i q = cc
-    go [] e (Event.Agent name description) i q = cc
-    go [] e (Event.Ask req lead client kind target total coin scope) i q = cc
-    go [] e (Event.Exit run exit listed) i q = cc
+    go [] e (Event.Level set) i q = cc
+    go [] e (Event.LevelGone cleared) i q = cc
+    go [] e (Event.Agent described) i q = cc
+    go [] e (Event.Ask ask) i q = cc
+    go [] e (Event.Exit ended) i q = cc
     go [] e Event.Pass i q = cc
-    go [] e (Event.Confirm client target) i q = cc
-    go [] e (Event.Refused line cause) i q = cc
-    go [] e (Event.Start run req slot reg kind attempt) i q = cc
+    go [] e (Event.Confirm confirmation) i q = cc
+    go [] e (Event.Refused refusal) i q = cc
+    go [] e (Event.Start start) i q = cc
     go (d ∷ before) e event i q = cc
 
 empty-append : (xs ys : History) → ys ≡ [] → xs ++ ys ≡ xs
@@ -201,7 +201,7 @@ driven-passed line full old new r p k = (subst (λ h. rests None h ≡ true) (sy
 
 -- the entry of a start
 abbrev start_of : Cored → Started → Entry
-start_of v s = record { moment = v.last; event = Event.Start s.run s.req s.slot s.reg s.kind s.attempt }
+start_of v s = record { moment = v.last; event = Event.Start (record { run = s.run; req = s.req; slot = s.slot; reg = s.reg; kind = s.kind; attempt = s.attempt }) }
 
 -- no start yet, and one more
 pub starts-none : (v : Cored) → StartsSome v v

@@ -6,7 +6,7 @@ use Rattle.fnc_journal.specs.declared.definition.Actions.{Actions}
 use Rattle.fnc_journal.specs.declared.definition.Definition.{Definition}
 use Rattle.fnc_journal.specs.declared.entry.Answer.{Answer}
 use Rattle.fnc_journal.specs.declared.entry.Entry.{Entry}
-use Rattle.fnc_journal.specs.declared.entry.Event.{Event}
+use Rattle.fnc_journal.specs.declared.event.Event.{Event}
 use Rattle.fnc_journal.specs.declared.entry.Exit.{Exit}
 use Rattle.fnc_journal.specs.declared.entry.Kind.{Kind}
 use Rattle.fnc_journal.specs.declared.entry.LevelTarget.{LevelTarget}
@@ -26,7 +26,7 @@ journal entries = reverse entries
 -- `device REG NAME` and the definition
 abbrev pub device : ℕ → Quoted → Definition → Event
 device reg name definition =
-    Event.Device (record { 0 = reg }) (record { name = codes name; agent = codes "fence_model"; definition = definition })
+    Event.Device (record { reg = record { 0 = reg }; registration = record { name = codes name; agent = codes "fence_model"; definition = definition } })
 
 -- `gone REG`
 abbrev pub gone : ℕ → Event
@@ -42,24 +42,24 @@ pattern text = LevelTarget.Pattern (codes text)
 
 -- `level INDEX TARGET DEVICES`
 abbrev pub level : ℕ → LevelTarget → List Quoted → Event
-level index target devices = Event.Level target index (map codes devices)
+level index target devices = Event.Level (record { target = target; index = index; devices = map codes devices })
 
 -- `unlevel INDEX TARGET`
 abbrev pub unlevel : ℕ → LevelTarget → Event
-unlevel index target = Event.LevelGone target index
+unlevel index target = Event.LevelGone (record { target = target; index = index })
 
 -- `agent NAME` with these actions and no parameters
 abbrev pub agent : Quoted → Actions → Event
-agent name actions = Event.Agent (codes name) (record { actions = actions; parameters = []; target = None })
+agent name actions = Event.Agent (record { name = codes name; description = record { actions = actions; parameters = []; target = None } })
 
 -- `ask REQ LEAD CLIENT KIND TARGET TOTAL COIN SCOPE`
 abbrev pub ask : ℕ → ℕ → Quoted → Kind → Quoted → ℕ → ℕ → Scope → Event
 ask req lead client kind target total coin scope =
-    Event.Ask (record { 0 = req }) (record { 0 = lead }) (codes client) kind (codes target) total coin scope
+    Event.Ask (record { req = record { 0 = req }; lead = record { 0 = lead }; client = codes client; kind = kind; target = codes target; total = total; coin = coin; scope = scope })
 
 -- `exit RUN CODE LISTED`
 abbrev pub exit : ℕ → ℕ → Bool → Event
-exit run code listed = Event.Exit (record { 0 = run }) (Exit.Code code) listed
+exit run code listed = Event.Exit (record { run = record { 0 = run }; exit = Exit.Code code; listed = listed })
 
 -- `pass`
 abbrev pub pass : Event
@@ -67,17 +67,17 @@ pass = Event.Pass
 
 -- `confirm CLIENT TARGET`
 abbrev pub confirm : Quoted → Quoted → Event
-confirm client target = Event.Confirm (codes client) (codes target)
+confirm client target = Event.Confirm (record { client = codes client; target = codes target })
 
 -- `refused LINE CAUSE`
 abbrev pub refused : ℕ → Cause → Event
-refused line cause = Event.Refused line cause
+refused line cause = Event.Refused (record { line = line; cause = cause })
 
 -- `start RUN REQ PHASE LEVEL PLACE REG KIND ATTEMPT`
 abbrev pub start : ℕ → ℕ → Phase → ℕ → ℕ → ℕ → Kind → ℕ → Event
 start run req phase level place reg kind attempt =
-    Event.Start (record { 0 = run }) (record { 0 = req }) (record { phase = phase; level = level; place = place }) (record { 0 = reg }) kind attempt
+    Event.Start (record { run = record { 0 = run }; req = record { 0 = req }; slot = record { phase = phase; level = level; place = place }; reg = record { 0 = reg }; kind = kind; attempt = attempt })
 
 -- `reply REQ ANSWER`
 abbrev pub reply : ℕ → Answer → Event
-reply req answer = Event.Reply (record { 0 = req }) answer
+reply req answer = Event.Reply (record { req = record { 0 = req }; answer = answer })

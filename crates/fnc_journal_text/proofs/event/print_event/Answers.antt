@@ -1,7 +1,7 @@
 use Rattle.std.proofs.Common.{sym, subst}
 use Rattle.std.specs.Prelude.{OnErr}
 use Rattle.fnc_outside.specs.Writes.{AppendsPart}
-use Rattle.fnc_journal.specs.declared.entry.Event.{Event}
+use Rattle.fnc_journal.specs.declared.event.Event.{Event}
 use Rattle.fnc_journal_text.specs.Spelled.{spaced, words_of}
 use Rattle.fnc_journal_text.proofs.event.print_event.Goals as goal
 

@@ -1,6 +1,6 @@
 -- The change enters after the advance.
 use Rattle.std.proofs.Common.{◌≡◌, ◌∙◌, ap, ap₂, subst}
-use Rattle.fnc_journal.specs.declared.entry.Event.{Event}
+use Rattle.fnc_journal.specs.declared.event.Event.{Event}
 use Rattle.fnc_journal.specs.Found.{devices}
 use Rattle.fnc_journal.specs.Lawful.{in_order}
 use Rattle.fnc_core.specs.Cored.{Enters, event_of}

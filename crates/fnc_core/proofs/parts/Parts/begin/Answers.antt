@@ -1,6 +1,6 @@
 -- The parts with a request that began an operation, and without memory for it.
 use Rattle.std.proofs.Common.{◌∷◌, ◌≡◌, ◌≤◌, ◌+◌, ◌*◌, ◌∙◌, refl, ap, subst, sym, arith, length, max, true, None}
-use Rattle.fnc_journal.specs.declared.entry.Event.{Event}
+use Rattle.fnc_journal.specs.declared.event.Event.{Event}
 use Rattle.fnc_journal.specs.History.{History}
 use Rattle.fnc_journal.specs.Lawful.{in_order}
 use Rattle.fnc_journal.specs.Operations.{joined}
@@ -42,7 +42,7 @@ returns-clause-between c =
     let p : Parted = record { history = c.self.inside.journal.history; limit = c.self.inside.journal.limit; ops = c.self.inside.ops; queue = c.self.inside.queue } in
     let q : Parted = record { history = c.push.new.self.history; limit = c.push.new.self.limit; ops = c.begin.new.self; queue = c.requeue.new.queue } in
     let r : Request = record { req = c.args.req; target = c.args.ask.target; kind = c.args.ask.kind; moment = c.args.moment; total = c.args.ask.total; coin = c.args.ask.coin } in
-    let event : Event = Event.Ask c.args.req c.args.req c.args.ask.client c.args.ask.kind c.args.ask.target c.args.ask.total c.args.ask.coin c.args.plan.scope in
+    let event : Event = Event.Ask (record { req = c.args.req; lead = c.args.req; client = c.args.ask.client; kind = c.args.ask.kind; target = c.args.ask.target; total = c.args.ask.total; coin = c.args.ask.coin; scope = c.args.plan.scope }) in
     let own : c.in_ok-operation.operation ≡ r = c.in_ok-operation.ensures in
     let rests : Rests c.args.moment p = subst (λ (v : Parted). Rests c.args.moment v) (sym c.self.view_is) c.requires.rests in
     let ordered : in_order event p.history ≡ true = subst (λ (v : Parted). in_order event v.history ≡ true) (sym c.self.view_is) c.requires.ordered in

@@ -1,6 +1,6 @@
 -- The parts with a request that joined, and without memory for it.
 use Rattle.std.proofs.Common.{◌∷◌, ◌≡◌, ◌≤◌, ◌+◌, ◌∙◌, ap, subst, sym, arith, length, true, option_map, Some}
-use Rattle.fnc_journal.specs.declared.entry.Event.{Event}
+use Rattle.fnc_journal.specs.declared.event.Event.{Event}
 use Rattle.fnc_journal.specs.Lawful.{in_order}
 use Rattle.fnc_journal.specs.Operations.{joined}
 use Rattle.fnc_journal.specs.Owed.{owed}
@@ -28,8 +28,8 @@ returns-clause-between c =
     let p : Parted = record { history = c.self.inside.journal.history; limit = c.self.inside.journal.limit; ops = c.self.inside.ops; queue = c.self.inside.queue } in
     let q : Parted = record { history = c.push.new.self.history; limit = c.push.new.self.limit; ops = c.join.new.self; queue = c.reserve.new.self } in
     let rests : Rests c.args.moment p = subst (λ (v : Parted). Rests c.args.moment v) (sym c.self.view_is) c.requires.rests in
-    let ordered : in_order (Event.Ask c.args.req c.args.lead c.args.ask.client c.args.ask.kind c.args.ask.target c.args.ask.total c.args.ask.coin c.args.scope) p.history ≡ true =
-    subst (λ (v : Parted). in_order (Event.Ask c.args.req c.args.lead c.args.ask.client c.args.ask.kind c.args.ask.target c.args.ask.total c.args.ask.coin c.args.scope) v.history ≡ true) (sym c.self.view_is) c.requires.ordered in
+    let ordered : in_order (Event.Ask (record { req = c.args.req; lead = c.args.lead; client = c.args.ask.client; kind = c.args.ask.kind; target = c.args.ask.target; total = c.args.ask.total; coin = c.args.ask.coin; scope = c.args.scope })) p.history ≡ true =
+    subst (λ (v : Parted). in_order (Event.Ask (record { req = c.args.req; lead = c.args.lead; client = c.args.ask.client; kind = c.args.ask.kind; target = c.args.ask.target; total = c.args.ask.total; coin = c.args.ask.coin; scope = c.args.scope })) v.history ≡ true) (sym c.self.view_is) c.requires.ordered in
     let led : option_map (λ (o : Operation). o.req) (joined p.history c.args.moment c.args.ask.kind c.args.ask.target) ≡ Some c.args.lead.0 =
     subst (λ (v : Parted). option_map (λ (o : Operation). o.req) (joined v.history c.args.moment c.args.ask.kind c.args.ask.target) ≡ Some c.args.lead.0) (sym c.self.view_is) c.requires.leads in
     let room : RoomFor p 2 = subst (λ (v : Parted). RoomFor v 2) (sym c.self.view_is) c.requires.room in
