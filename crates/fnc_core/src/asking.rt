@@ -56,11 +56,11 @@ impl Parts {
         scope: Scope,
     ) -> Result<(), NoMemory>
         requires rests { Rests moment self.old }
-        requires ordered { in_order (Event.Ask req lead ask.client ask.kind ask.target ask.total ask.coin scope) self.old.history ≡ true }
+        requires ordered { in_order (Event.Ask (record { req = req; lead = lead; client = ask.client; kind = ask.kind; target = ask.target; total = ask.total; coin = ask.coin; scope = scope })) self.old.history ≡ true }
         requires leads { option_map (λ o. o.req) (joined self.old.history moment ask.kind ask.target) ≡ Some lead.0 }
         requires room { RoomFor self.old 2 }
         ensures between { OnOk result (Between moment self.new) }
-        ensures adds { OnOk result (Adds moment (Event.Ask req lead ask.client ask.kind ask.target ask.total ask.coin scope) self.old self.new) }
+        ensures adds { OnOk result (Adds moment (Event.Ask (record { req = req; lead = lead; client = ask.client; kind = ask.kind; target = ask.target; total = ask.total; coin = ask.coin; scope = scope })) self.old self.new) }
         ensures err { OnErr result (Stays moment self.old self.new) }
     {
         self.queue.reserve(self.ops.owed() + 1)?;
@@ -79,12 +79,12 @@ impl Parts {
         plan: Plan,
     ) -> Result<(), NoMemory>
         requires rests { Rests moment self.old }
-        requires ordered { in_order (Event.Ask req req ask.client ask.kind ask.target ask.total ask.coin plan.scope) self.old.history ≡ true }
+        requires ordered { in_order (Event.Ask (record { req = req; lead = req; client = ask.client; kind = ask.kind; target = ask.target; total = ask.total; coin = ask.coin; scope = plan.scope })) self.old.history ≡ true }
         requires leads { joined self.old.history moment ask.kind ask.target ≡ None }
         requires planned { IsPlanOf self.old.history moment ask.kind ask.target plan }
         requires room { RoomFor self.old (need_of self.old.history moment req ask plan) }
         ensures between { OnOk result (Between moment self.new) }
-        ensures adds { OnOk result (Adds moment (Event.Ask req req ask.client ask.kind ask.target ask.total ask.coin plan.scope) self.old self.new) }
+        ensures adds { OnOk result (Adds moment (Event.Ask (record { req = req; lead = req; client = ask.client; kind = ask.kind; target = ask.target; total = ask.total; coin = ask.coin; scope = plan.scope })) self.old self.new) }
         ensures err { OnErr result (Stays moment self.old self.new) }
     {
         let operation = operation_of(alloc, moment, req, &ask)?;

@@ -63,9 +63,9 @@ impl Core {
 
     /// A request joins an operation that is open, with the replies that it makes due.
     fn join(&mut self, lead: Req, ask: Ask, scope: Scope) -> Result<(), AskRefusal>
-        requires ordered { in_order (Event.Ask (next_of self.old) lead ask.client ask.kind ask.target ask.total ask.coin scope) self.old.history ≡ true }
+        requires ordered { in_order (Event.Ask (record { req = next_of self.old; lead = lead; client = ask.client; kind = ask.kind; target = ask.target; total = ask.total; coin = ask.coin; scope = scope })) self.old.history ≡ true }
         requires leads { option_map (λ o. o.req) (joined self.old.history self.old.last ask.kind ask.target) ≡ Some lead.0 }
-        ensures ok { OnOk result (Follows self.old self.new (Event.Ask (next_of self.old) lead ask.client ask.kind ask.target ask.total ask.coin scope)) }
+        ensures ok { OnOk result (Follows self.old self.new (Event.Ask (record { req = next_of self.old; lead = lead; client = ask.client; kind = ask.kind; target = ask.target; total = ask.total; coin = ask.coin; scope = scope }))) }
         ensures refusal { IfErr result (IsRefusal self.new 2) }
         ensures err { OnErr result (self.new ≡ self.old) }
     {

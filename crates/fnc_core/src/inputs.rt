@@ -134,7 +134,7 @@ impl Parts {
         requires rests { Rests moment self.old }
         requires room { RoomFor self.old 1 }
         ensures between { Between moment self.new }
-        ensures adds { Adds moment (Event.Confirm client target) self.old self.new }
+        ensures adds { Adds moment (Event.Confirm (record { client = client; target = target })) self.old self.new }
     {
         self.ops.confirm(&self.journal, target.as_str());
         self.journal.push(Entry {
@@ -149,7 +149,7 @@ impl Parts {
         requires alive { Startable.is_alive run.0 self.old.history ≡ true }
         requires started { Found.started run.0 self.old.history ≡ Some start }
         ensures between { Between moment self.new }
-        ensures adds { Adds moment (Event.Exit run exit listed) self.old self.new }
+        ensures adds { Adds moment (Event.Exit (record { run = run; exit = exit; listed = listed })) self.old self.new }
     {
         self.ops.ended(&self.journal, run, exit, listed, moment);
         self.queue.ended(lane_of(&self.journal, start.reg));
@@ -165,7 +165,7 @@ impl Parts {
         requires rests { Rests moment self.old }
         requires alive { Startable.is_alive run.0 self.old.history ≡ true }
         ensures between { Between moment self.new }
-        ensures adds { Adds moment (Event.Exit run exit listed) self.old self.new }
+        ensures adds { Adds moment (Event.Exit (record { run = run; exit = exit; listed = listed })) self.old self.new }
     {
         if let Some(start) = start_of(&self.journal, run) {
             self.end_started(start, moment, run, exit, listed);

@@ -156,7 +156,7 @@ impl Core {
     pub fn refuse(&mut self, moment: u64, line: u32, cause: Cause) -> Result<(), Full>
         requires later { self.old.last ≤ moment }
         requires early { moment ≤ 10 ^ 15 }
-        ensures ok { OnOk result (Enters self.old self.new moment (Event.Refused line cause)) }
+        ensures ok { OnOk result (Enters self.old self.new moment (Event.Refused (record { line = line; cause = cause }))) }
         ensures full { IfErr result (IsFull self.new 1) }
         ensures err { OnErr result (Advances self.old self.new moment) }
     {
@@ -220,7 +220,7 @@ impl Core {
     ) -> Result<(), UnknownRun>
         requires later { self.old.last ≤ moment }
         requires early { moment ≤ 10 ^ 15 }
-        ensures ok { OnOk result (Enters self.old self.new moment (Event.Exit run exit listed)) }
+        ensures ok { OnOk result (Enters self.old self.new moment (Event.Exit (record { run = run; exit = exit; listed = listed }))) }
         ensures alive { IsOk result ↔ (is_alive run.0 self.old.history ≡ true) }
         ensures err { OnErr result (Advances self.old self.new moment) }
     {

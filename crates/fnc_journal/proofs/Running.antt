@@ -3,14 +3,11 @@ use Rattle.std.proofs.Common.{ℕ, List, [], ◌∷◌, ◌++◌, Bool, true, fa
 use Rattle.std.specs.Prelude.{filter}
 use Rattle.std.specs.List.{list_any}
 use Rattle.fnc_journal.specs.declared.event.Event.{Event}
-use Rattle.fnc_journal.specs.declared.entry.Exit.{Exit}
-use Rattle.fnc_journal.specs.declared.entry.Kind.{Kind}
-use Rattle.fnc_journal.specs.declared.entry.Reg.{Reg}
-use Rattle.fnc_journal.specs.declared.entry.Req.{Req}
-use Rattle.fnc_journal.specs.declared.entry.Run.{Run}
+use Rattle.fnc_journal.specs.declared.event.Ended.{Ended}
+use Rattle.fnc_journal.specs.declared.event.Start.{Start}
 use Rattle.fnc_journal.specs.declared.entry.Slot.{Slot}
 use Rattle.fnc_journal.specs.History.{History}
-use Rattle.fnc_journal.specs.Found.{Started, starts, started, started_here, has_exit}
+use Rattle.fnc_journal.specs.Found.{starts, started, started_here, has_exit}
 use Rattle.fnc_journal.specs.Missing.{or_here, append_some}
 use Rattle.fnc_journal.specs.Startable.{Begun, begun_here, begun_runs, alive_runs, is_alive}
 use Rattle.fnc_journal.specs.Lawful.{Lawful}
@@ -18,23 +15,23 @@ use Rattle.fnc_journal.proofs.Each.{filter-append, filter-or, any-append_one}
 use Rattle.fnc_journal.proofs.Fresh.{unstarted_unended}
 
 -- a start makes its run alive
-pub alive_runs-start : (h : History) → Lawful h → (m : ℕ) (run : Run) (req : Req) (slot : Slot) (reg : Reg) (kind : Kind) (attempt : ℕ) → run.0 ≡ starts h →
-    alive_runs (record { moment = m; event = Event.Start (record { run = run; req = req; slot = slot; reg = reg; kind = kind; attempt = attempt }) } ∷ h) ≡ alive_runs h ++ record { run = run.0; reg = reg.0 } ∷ []
-alive_runs-start h l m run req slot reg kind attempt e =
-    filter-append (λ b. not (has_exit b.run h)) (begun_runs h) (record { run = run.0; reg = reg.0 })
-    (ap not (unstarted_unended h l run.0 (omega (arith, e))))
+pub alive_runs-start : (h : History) → Lawful h → (m : ℕ) (start : Start) → start.run.0 ≡ starts h →
+    alive_runs (record { moment = m; event = Event.Start start } ∷ h) ≡ alive_runs h ++ record { run = start.run.0; reg = start.reg.0 } ∷ []
+alive_runs-start h l m start e =
+    filter-append (λ b. not (has_exit b.run h)) (begun_runs h) (record { run = start.run.0; reg = start.reg.0 })
+    (ap not (unstarted_unended h l start.run.0 (omega (arith, e))))
 
 -- an exit takes its run away
-pub alive_runs-exit : (h : History) (m : ℕ) (run : Run) (exit : Exit) (listed : Bool) →
-    alive_runs (record { moment = m; event = Event.Exit (record { run = run; exit = exit; listed = listed }) } ∷ h) ≡ filter (λ (b : Begun). not (b.run == run.0)) (alive_runs h)
-alive_runs-exit h m run exit listed = filter-or (λ b. b.run == run.0) (λ b. has_exit b.run h) (begun_runs h)
+pub alive_runs-exit : (h : History) (m : ℕ) (ended : Ended) →
+    alive_runs (record { moment = m; event = Event.Exit ended } ∷ h) ≡ filter (λ (b : Begun). not (b.run == ended.run.0)) (alive_runs h)
+alive_runs-exit h m ended = filter-or (λ b. b.run == ended.run.0) (λ b. has_exit b.run h) (begun_runs h)
 
 -- a run is alive exactly where it is among the runs that are alive
 begun-started : (n : ℕ) (h : History) → list_any (λ (b : Begun). n == b.run) (begun_runs h) ≡ is_some (started n h)
 begun-started n [] = refl
 begun-started n (e ∷ before) = go e.event (begun-started n before)
   where
-    some_here : (x y : Option Started) → is_some (or_here x y) ≡ (is_some x || is_some y)
+    some_here : (x y : Option Start) → is_some (or_here x y) ≡ (is_some x || is_some y)
     some_here None None = refl
     some_here None (Some y) = refl
     some_here (Some x) None = refl
@@ -47,7 +44,7 @@ begun-started n (e ∷ before) = go e.event (begun-started n before)
     or-none true = refl
     or-none false = refl
 
-    or-some : (b c : Bool) (s : Started) → (b || c) ≡ (b || is_some (cond c (Some s) None))
+    or-some : (b c : Bool) (s : Start) → (b || c) ≡ (b || is_some (cond c (Some s) None))
     or-some b true s = refl
     or-some b false s = refl
 
@@ -56,8 +53,8 @@ begun-started n (e ∷ before) = go e.event (begun-started n before)
     go (Event.Start start) ih =
         any-append (begun_runs before) (record { run = start.run.0; reg = start.reg.0 })
         ∙ ap (λ b. b || (n == start.run.0)) ih
-        ∙ or-some (is_some (started n before)) (n == start.run.0) (record { req = start.req.0; slot = start.slot; reg = start.reg.0; kind = start.kind })
-        ∙ sym (some_here (started n before) (cond (n == start.run.0) (Some (record { req = start.req.0; slot = start.slot; reg = start.reg.0; kind = start.kind })) None))
+        ∙ or-some (is_some (started n before)) (n == start.run.0) start
+        ∙ sym (some_here (started n before) (cond (n == start.run.0) (Some start) None))
     go _ ih = ih ∙ or-none (is_some (started n before)) ∙ sym (some_here (started n before) None)
 
 any-kept : (n : ℕ) (h : History) (xs : List Begun) →

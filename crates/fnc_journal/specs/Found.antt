@@ -6,7 +6,7 @@ use Rattle.fnc_journal.specs.declared.entry.Entry.{Entry}
 use Rattle.fnc_journal.specs.declared.event.Event.{Event}
 use Rattle.fnc_journal.specs.declared.entry.Kind.{Kind}
 use Rattle.fnc_journal.specs.declared.entry.Scope.{Scope}
-use Rattle.fnc_journal.specs.declared.entry.Slot.{Slot}
+use Rattle.fnc_journal.specs.declared.event.Start.{Start}
 use Rattle.fnc_journal.specs.declared.definition.Registration.{Registration}
 use Rattle.fnc_journal.specs.History.{History}
 use Rattle.fnc_journal.specs.Missing.{or_here}
@@ -100,21 +100,13 @@ abbrev pub asked : ℕ → History → Option Asked
 asked r [] = None
 asked r (e ∷ before) = or_here (asked r before) (asked_here r e.moment before e.event)
 
--- the start of a run
-pub record Started : Type 0 where
-  pub req : ℕ
-  pub slot : Slot
-  pub reg : ℕ
-  pub kind : Kind
-
--- what an entry says of the start of a run
-abbrev pub started_here : ℕ → Event → Option Started
-started_here n (Event.Start start) =
-    if n == start.run.0 then Some (record { req = start.req.0; slot = start.slot; reg = start.reg.0; kind = start.kind }) else None
+-- what an entry says of the start of the run of a number
+abbrev pub started_here : ℕ → Event → Option Start
+started_here n (Event.Start start) = if n == start.run.0 then Some start else None
 started_here n _ = None
 
--- the start of a run of a number
-abbrev pub started : ℕ → History → Option Started
+-- the start of the run of a number
+abbrev pub started : ℕ → History → Option Start
 started n h = first_found (λ e. started_here n e.event) h
 
 -- whether it is the exit of a run

@@ -101,7 +101,7 @@ pub enum Event {
     Level(LevelSet),
     LevelGone(LevelCleared),
     Agent(Described),
-    Ask(Request),
+    Ask(Boxed<Request>),
     Exit(Ended),
     Pass,
     Confirm(Confirmation),

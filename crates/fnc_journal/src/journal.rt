@@ -127,7 +127,7 @@ fn is_ask_of(event: &Event, req: Req) -> bool
     ensures { result ≡ Found.is_ask_of req.0 event.now }
 {
     match event {
-        Event::Ask(request) => req.0 == request.req.0,
+        Event::Ask(request) => req.0 == request.get().req.0,
         _ => false,
     }
 }

@@ -1,6 +1,7 @@
 // Each constructor that takes memory, once with enough of it.
 
-use crate::entry::{Entry, Event};
+use crate::entry::Entry;
+use crate::event::Event;
 use crate::journal::Journal;
 use crate::names::Names;
 use crate::text::{Bytes, Text};
