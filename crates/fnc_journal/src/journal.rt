@@ -1,8 +1,8 @@
 // The journal: a list of entries that grows at its end.
 
 use crate::definition::Registration;
-use crate::entry::{Entry, Reg, Req};
-use crate::event::Event;
+use crate::entry::{Entry, Reg, Req, Run};
+use crate::event::{Event, Start};
 use crate::outcome::NoMemory;
 use std::alloc::Global;
 use std::marker::Model;
@@ -81,6 +81,13 @@ impl Journal {
         registration_in(&self.entries, reg)
     }
 
+    /// What started the run of a number: the first Start entry of that number. None where there is none.
+    pub fn start_of(&self, run: Run) -> Option<&Start>
+        ensures { option_copied result ≡ Found.started run.0 self.now.history }
+    {
+        start_in(&self.entries, run)
+    }
+
     /// The newest entry that asks the request of a number, which in a lawful journal is the only one.
     /// The search begins at the newest entry. None where there is none.
     pub fn latest_ask(&self, req: Req) -> Option<&Entry>
@@ -118,6 +125,32 @@ fn registration_in(entries: &[Entry], reg: Reg) -> Option<&Registration>
     for e in entries {
         if let Some(registration) = registration_here(&e.event, reg) {
             return Some(registration);
+        }
+    }
+    None
+}
+
+fn started_here(event: &Event, run: Run) -> Option<&Start>
+    ensures { option_copied result ≡ Found.started_here run.0 event.now }
+{
+    match event {
+        Event::Start(start) => {
+            if run.0 == start.run.0 {
+                Some(start)
+            } else {
+                None
+            }
+        }
+        _ => None,
+    }
+}
+
+fn start_in(entries: &[Entry], run: Run) -> Option<&Start>
+    ensures { option_copied result ≡ Forward.found (λ e. Found.started_here run.0 e.event) entries.now }
+{
+    for e in entries {
+        if let Some(start) = started_here(&e.event, run) {
+            return Some(start);
         }
     }
     None
