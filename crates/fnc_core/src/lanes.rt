@@ -5,7 +5,7 @@ ghost use Rattle.fnc_journal.specs.Missing as Missing;
 ghost use Rattle.fnc_journal.specs.Registered as Registered;
 ghost use Rattle.fnc_core.specs.Wanted as Wanted;
 
-use fnc_journal::{Event, Journal, Reg, Registered, Req};
+use fnc_journal::{Event, Journal, Reg, Req};
 use fnc_ops::{Ops, Standing};
 use fnc_queue::Waiting;
 
@@ -14,9 +14,9 @@ fn named_here(event: &Event, name: &str) -> Option<u32>
     ensures { result ≡ Registered.named_here name.now event.now }
 {
     match event {
-        Event::Device(Registered { reg, registration }) => {
-            if registration.name.is(name) {
-                Some(reg.0)
+        Event::Device(device) => {
+            if device.registration.get().name.is(name) {
+                Some(device.reg.0)
             } else {
                 None
             }

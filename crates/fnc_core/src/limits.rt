@@ -8,7 +8,7 @@ ghost use Rattle.fnc_journal.specs.Lawful.{Lawful};
 ghost use Rattle.fnc_ops.specs.Stands.{AreBounded};
 ghost use Rattle.fnc_core.specs.Limits as Limits;
 
-use fnc_journal::{Entry, Event, Journal, Kind, Reg, Req, Request};
+use fnc_journal::{Entry, Event, Journal, Kind, Reg, Req};
 use fnc_ops::Standing;
 
 /// When the total time of a request is over, by its entry.
@@ -16,7 +16,7 @@ fn over_by(entry: &Entry) -> u64
     ensures { result ≡ Limits.over_by entry.now.moment entry.now.event }
 {
     match &entry.event {
-        Event::Ask(Request { total, .. }) => entry.moment.saturating_add(*total),
+        Event::Ask(request) => entry.moment.saturating_add(request.get().total),
         _ => entry.moment,
     }
 }

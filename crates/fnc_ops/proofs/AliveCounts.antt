@@ -2,13 +2,9 @@
 use Rattle.std.proofs.Common.{ℕ, List, [], ◌∷◌, ◌++◌, Bool, true, false, ◌≡◌, ◌<◌, ◌≤◌, ◌+◌, ◌-◌, ◌==◌, refl, ap, sym, ◌∙◌, subst, Option, Some, None, cond, not, is_some, arith, length, eqb-true, eq-eqb, ne_eqb, IsTrue, ◌||◌}
 use Rattle.std.specs.Prelude.{filter, find}
 use Rattle.std.specs.List.{list_any, AllByRecursion}
+use Rattle.fnc_journal.specs.declared.event.Ended.{Ended}
+use Rattle.fnc_journal.specs.declared.event.Start.{Start}
 use Rattle.fnc_journal.specs.declared.event.Event.{Event}
-use Rattle.fnc_journal.specs.declared.entry.Exit.{Exit}
-use Rattle.fnc_journal.specs.declared.entry.Kind.{Kind}
-use Rattle.fnc_journal.specs.declared.entry.Reg.{Reg}
-use Rattle.fnc_journal.specs.declared.entry.Req.{Req}
-use Rattle.fnc_journal.specs.declared.entry.Run.{Run}
-use Rattle.fnc_journal.specs.declared.entry.Slot.{Slot}
 use Rattle.fnc_journal.specs.History.{History}
 use Rattle.fnc_journal.specs.Found.{starts, has_exit}
 use Rattle.fnc_journal.specs.Missing.{append_some}

@@ -3,9 +3,9 @@ use Rattle.std.proofs.Common.{ℕ, List, [], ◌∷◌, Bool, true, false, ◌�
 use Rattle.std.proofs.lemmas.Bool.{not-true}
 use Rattle.std.specs.Prelude.{option_map}
 use Rattle.std.specs.List.{AllZip, list_all}
+use Rattle.fnc_journal.specs.declared.event.Ended.{Ended}
+use Rattle.fnc_journal.specs.declared.event.Start.{Start}
 use Rattle.fnc_journal.specs.declared.event.Event.{Event}
-use Rattle.fnc_journal.specs.declared.entry.Exit.{Exit}
-use Rattle.fnc_journal.specs.declared.entry.Run.{Run}
 use Rattle.fnc_journal.specs.declared.entry.Slot.{Slot}
 use Rattle.fnc_journal.specs.History.{History}
 use Rattle.fnc_journal.specs.Missing.{or_here}
@@ -141,7 +141,7 @@ module _ (h : History) (l : Lawful h) (m : ℕ) (over : Ended) (few : length h +
         untried_is = untried-ranked m levels_after ∙ s.untried_is;
         enough = enough-ranked m levels_after (let le : left_levels r.levels ≤ r.untried = s.enough in let same : left_levels levels_after.levels ≡ left_levels r.levels = left-ended st.slot over.exit over.listed r.over m r.levels in omega (arith, le, same));
       } in
-      subst (λ xs. IsKept xs (unanswered o.req h) (is_confirmed o h) (operation_ended st.slot over.exit over.listed m r) o) (sym (acts-over.exit o.req m over st.slot h f)) kept
+      subst (λ xs. IsKept xs (unanswered o.req h) (is_confirmed o h) (operation_ended st.slot over.exit over.listed m r) o) (sym (acts-exit o.req m over st.slot h f)) kept
 
   ended-other : (st : Start) → started over.run.0 h ≡ Some st → (r : KeptOperation) (o : Operation) → Stands h r o → (o.req == st.req.0) ≡ false → Stands after r o
   ended-other st e r o s other =

@@ -2,10 +2,8 @@
 use Rattle.std.proofs.Common.{ℕ, List, [], ◌∷◌, Bool, true, false, ◌≡◌, ◌≤◌, ◌<◌, ◌+◌, ◌-◌, ◌^◌, ◌==◌, refl, ap, ap₂, sym, ◌∙◌, subst, Option, Some, None, cond, is_some, arith, length, map, ◌&&◌, bytes_eq}
 use Rattle.std.proofs.lemmas.Bool.Decides.{nat_tests}
 use Rattle.std.specs.List.{AllZip, AllByRecursion}
-use Rattle.fnc_journal.specs.declared.entry.Kind.{Kind}
-use Rattle.fnc_journal.specs.declared.entry.Reg.{Reg}
-use Rattle.fnc_journal.specs.declared.entry.Req.{Req}
-use Rattle.fnc_journal.specs.declared.entry.Run.{Run}
+use Rattle.fnc_journal.specs.declared.event.Confirmation.{Confirmation}
+use Rattle.fnc_journal.specs.declared.event.Start.{Start}
 use Rattle.fnc_journal.specs.History.{History}
 use Rattle.fnc_journal.specs.Found.{asked}
 use Rattle.fnc_journal.specs.Slots.{Operation, tries}
@@ -143,7 +141,7 @@ module _ (h : History) (m : ℕ) (word : Confirmation) where
 
   confirmed-one : (r : KeptOperation) (o : Operation) → is_some (asked o.req h) ≡ true → Stands h r o → Stands told (operation_confirmed word.target r) o
   confirmed-one r o a s =
-      let same : bytes_eq word.target r.target ≡ bytes_eq o.target target = ap (bytes_eq word.target) s.operation.target ∙ same_bytes word.target o.target in
+      let same : bytes_eq word.target r.target ≡ bytes_eq o.target word.target = ap (bytes_eq word.target) s.operation.target ∙ same_bytes word.target o.target in
       subst (λ b. Stands told (cond b (record r { confirmed = true }) r) o) (sym same) (go (bytes_eq o.target word.target) refl)
     where
       same_operation : IsOperation r.moment (acts o.req h) r o → IsOperation r.moment (acts o.req h) (record r { confirmed = true }) o

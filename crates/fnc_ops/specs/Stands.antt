@@ -7,12 +7,8 @@ use Rattle.fnc_journal.specs.declared.event.Ended.{Ended}
 use Rattle.fnc_journal.specs.declared.event.Event.{Event}
 use Rattle.fnc_journal.specs.declared.event.Request.{Request}
 use Rattle.fnc_journal.specs.declared.event.Start.{Start}
-use Rattle.fnc_journal.specs.declared.entry.Kind.{Kind}
-use Rattle.fnc_journal.specs.declared.entry.Reg.{Reg}
 use Rattle.fnc_journal.specs.declared.entry.Req.{Req}
-use Rattle.fnc_journal.specs.declared.entry.Run.{Run}
 use Rattle.fnc_journal.specs.declared.entry.Scope.{Scope}
-use Rattle.fnc_journal.specs.declared.entry.Slot.{Slot}
 use Rattle.fnc_journal.specs.declared.plan.PlanLevel.{PlanLevel}
 use Rattle.fnc_journal.specs.Bounds.{IsBounded}
 use Rattle.fnc_journal.specs.History.{History}

@@ -23,7 +23,9 @@ use crate::records::{
     first_due, first_expired, first_member, join, joinable, keep_waiting, owed_with, see_confirm,
     see_exit, see_moment, see_moment_of, see_reply, see_start, standing_of, waiting_of,
 };
-use fnc_journal::{Answer, Confirmation, Ended, Journal, Kind, NoMemory, Plan, Req, Request, Start, Text};
+use fnc_journal::{
+    Answer, Confirmation, Ended, Journal, Kind, NoMemory, Plan, Req, Request, Start, Text,
+};
 use std::alloc::Global;
 use std::marker::Model;
 
@@ -301,13 +303,20 @@ impl Ops {
 
     fn kept_ended(&mut self, start: Option<&Start>, ended: Ended, moment: u64)
         ensures { self.new ≡ record {
-            operations = OpsRecords.ended (option_copied start) ended moment self.old.operations;
-            alive = self.old.alive - 1
+          operations = OpsRecords.ended (option_copied start.entry) ended moment self.old.operations;
+          alive = self.old.alive - 1;
         } }
     {
         self.alive = self.alive.saturating_sub(1);
         if let Some(s) = start {
-            see_exit(&mut self.records, s.req, s.slot, ended.exit, ended.listed, moment);
+            see_exit(
+                &mut self.records,
+                s.req,
+                s.slot,
+                ended.exit,
+                ended.listed,
+                moment,
+            );
         }
     }
 
