@@ -6,7 +6,9 @@ mod cause;
 mod definition;
 mod entry;
 mod journal;
+pub mod limits;
 mod names;
+mod option;
 mod outcome;
 mod plan;
 mod sequence;
@@ -22,6 +24,7 @@ pub use definition::{
 pub use entry::{Answer, Entry, Event, Exit, Kind, LevelTarget, Phase, Reg, Req, Run, Scope, Slot};
 pub use journal::Journal;
 pub use names::{Names, Pair, Pairs, find_pair, has_name, has_pair};
+pub use option::{is_option_name, is_option_value, is_own, is_value_byte};
 pub use outcome::{Full, NoMemory, Outcome, Rule};
 pub use plan::{Candidate, Candidates, Levels, Places, Plan, PlanLevel};
 pub use sequence::Sequence;
