@@ -8,7 +8,9 @@ mod definition;
 mod entry;
 mod event;
 mod journal;
+pub mod limits;
 mod names;
+mod option;
 mod outcome;
 mod plan;
 mod sequence;
@@ -29,6 +31,7 @@ pub use event::{
 };
 pub use journal::Journal;
 pub use names::{Names, Pair, Pairs, find_pair, has_name, has_pair};
+pub use option::{is_option_name, is_option_value, is_own, is_value_byte};
 pub use outcome::{Full, NoMemory, Outcome, Rule};
 pub use plan::{Candidate, Candidates, Levels, Places, Plan, PlanLevel};
 pub use sequence::Sequence;
