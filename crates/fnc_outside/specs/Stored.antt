@@ -1,5 +1,6 @@
 -- What a sink in memory is seen as.
-use Rattle.std.specs.Prelude.{ℕ, ◌+◌, ◌-◌, ◌==◌, List, [], ◌∷◌, ◌++◌, length, take, Bool, Option, Some, None, nat_le, nat_lt, is_some, ◌||◌, if◌then◌else◌}
+use Rattle.std.specs.Prelude.{ℕ, ◌+◌, ◌-◌, ◌==◌, List, [], ◌∷◌, ◌++◌, length, take, Bool, Option, Some}
+use Rattle.std.specs.Prelude.{None, nat_le, nat_lt, is_some, ◌||◌, if◌then◌else◌}
 use Rattle.std.specs.List.{list_any}
 use Rattle.fnc_outside.specs.Faults.{one_more}
 use Rattle.fnc_outside.specs.declared.memory_sink.Torn.{Torn}

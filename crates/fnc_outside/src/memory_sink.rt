@@ -112,7 +112,8 @@ impl MemorySink {
     /// An empty sink with room for `size` bytes. The writes whose numbers are listed, from 0, fail and
     /// append nothing. So does a write that does not fit.
     pub fn new(alloc: Global, size: u32, failing: &[u32]) -> Result<MemorySink, NoMemory>
-        ensures { IfOk result (λ s. s ≡ unused size (map (λ write. record { write = write; kept = 0 }) failing.now) []) }
+        ensures { IfOk result (λ s.
+            s ≡ unused size (map (λ write. record { write = write; kept = 0 }) failing.now) []) }
     {
         MemorySink::with_faults(
             alloc,

@@ -1,6 +1,7 @@
 // Lines from a reader.
 
-ghost use Rattle.std.specs.Prelude.{◌≡◌, ◌≢◌, ◌<◌, ◌↔◌, ◌==◌, ◌||◌, ℕ, [], length, position, nat_lt, if◌then◌else◌, None, false, IfOk, IfSome, IsTrue};
+ghost use Rattle.std.specs.Prelude.{◌≡◌, ◌≢◌, ◌<◌, ◌↔◌, ◌==◌, ◌||◌, ℕ, [], length, position, nat_lt};
+ghost use Rattle.std.specs.Prelude.{if◌then◌else◌, None, false, IfOk, IfSome, IsTrue};
 ghost use Rattle.std.specs.Bool.{OnTrue, OnFalse};
 ghost use Rattle.fnc_outside.specs.Faults.{NeverFalls, one_more};
 ghost use Rattle.fnc_outside.specs.Polls.{IsPolled, given_by, Leaves, HasCause};
