@@ -4,14 +4,22 @@
 
 mod boxed;
 mod cause;
+mod cells;
+mod chains;
 mod definition;
 mod entry;
 mod event;
+mod firsts;
+mod index;
 mod journal;
+mod lanes;
+mod links;
+mod lookups;
 mod names;
 mod outcome;
 mod plan;
 mod sequence;
+mod stray;
 #[cfg(test)]
 mod tests;
 mod text;
