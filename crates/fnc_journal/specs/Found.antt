@@ -111,6 +111,10 @@ abbrev pub asked : ℕ → History → Option Asked
 asked r [] = None
 asked r (e ∷ before) = or_here (asked r before) (asked_here r e.moment before e.event)
 
+-- what its entry says of a request, apart from what lies before it
+abbrev pub said : Asked → Asked
+said a = record a { before = [] }
+
 -- the request that an entry asks, if it has that number
 abbrev pub requested_here : ℕ → Event → Option Request
 requested_here r (Event.Ask ask) = if r == ask.req.0 then Some ask else None

@@ -1,6 +1,6 @@
 -- What the index of a journal says: each table is the search of the journal.
 use Rattle.std.specs.Prelude.{ℕ, List, ◌≡◌, ◌<◌, ◌≤◌, Option, length}
-use Rattle.std.specs.List.{All}
+use Rattle.std.specs.List.{AllByRecursion}
 use Rattle.fnc_journal.specs.declared.firsts.Firsts.{Firsts}
 use Rattle.fnc_journal.specs.declared.chains.Chains.{Chains}
 use Rattle.fnc_journal.specs.declared.index.Index.{Index}
@@ -32,7 +32,7 @@ pub record AreChains (limit : ℕ) (h : History) (c : Chains) : Type 0 where
 -- the least registration of each name
 pub record AreHeads (limit : ℕ) (h : History) (l : Heads) : Type 0 where
   pub least : (name : List ℕ) → least_among name l.entries h ≡ least_registration name h
-  pub within : All (λ i. i < length h) l.entries
+  pub within : AllByRecursion (λ i. i < length h) l.entries
   pub room : l.room ≡ limit
   pub few : length l.entries ≤ length h
 

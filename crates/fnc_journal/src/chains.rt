@@ -43,9 +43,10 @@ impl Chains {
         ensures { (room : ℕ) (e : Entry) (h : History) → length h ≡ at → at < room →
             operation_here h e.event ≡ Some operation.0 → AreChains room h self.old → AreChains room (e ∷ h) self.new }
     {
-        if let Some(before) = self.latest.get(operation.0) {
-            self.earlier.put(at, before);
-        }
+        let before = self.latest.get(operation.0);
         self.latest.put(operation.0, at);
+        if let Some(index) = before {
+            self.earlier.put(at, index);
+        }
     }
 }

@@ -59,7 +59,7 @@ impl Journal {
         let operation = self.operation_of(&entry.event);
         let lowers = self.lowers_lane(&entry.event);
         self.index.enter(&entry.event, operation, lowers, at);
-        let _ = self.entries.push(entry);
+        self.entries.push_reserved(entry);
     }
 
     /// How many entries it has.

@@ -51,7 +51,15 @@ impl Lanes {
             AreHeads room h self.old → AreHeads room (e ∷ h) self.new }
     {
         if lowers {
-            let _ = self.heads.push(at);
+            self.add(at);
         }
+    }
+
+    /// One more, the newest. There is room for as many as entries.
+    fn add(&mut self, at: u32)
+        ensures entries { length self.old.entries < self.old.room → self.new.entries ≡ at ∷ self.old.entries }
+        ensures room { self.new.room ≡ self.old.room }
+    {
+        let _ = self.heads.push(at);
     }
 }

@@ -1,11 +1,9 @@
 // Where in a journal each thing stands. What a fencer numbered is found in one step.
 
 ghost use Rattle.std.specs.Prelude.{◌≡◌, ◌<◌, length, option_map};
-ghost use Rattle.std.specs.Option.{option_copied};
-ghost use Rattle.fnc_journal.specs.Found as Found;
 ghost use Rattle.fnc_journal.specs.Links as Links;
 
-use crate::entry::{Req, Run};
+use crate::entry::{Reg, Req, Run};
 use crate::event::Event;
 use crate::journal::Journal;
 
@@ -38,6 +36,14 @@ impl Journal {
         ensures { result ≡ Links.exit_at run.0 self.now.history }
     {
         self.index().firsts.exits.get(run.0)
+    }
+
+    /// The index of the entry that makes the registration of a number: the first where several do. None
+    /// where there is none.
+    pub fn device_at(&self, reg: Reg) -> Option<u32>
+        ensures { result ≡ Links.device_at reg.0 self.now.history }
+    {
+        self.index().firsts.devices.get(reg.0)
     }
 
     /// The index of the newest entry of an operation: the start of one of its runs, or the exit of one.

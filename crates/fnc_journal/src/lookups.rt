@@ -1,6 +1,6 @@
 // What stands in a journal under a number.
 
-ghost use Rattle.std.specs.Prelude.{◌≡◌, [], option_map, option_and_then};
+ghost use Rattle.std.specs.Prelude.{◌≡◌, [], option_map, option_and_then, is_some, find, reverse};
 ghost use Rattle.std.specs.Option.{option_copied};
 ghost use Rattle.fnc_journal.specs.Found as Found;
 ghost use Rattle.fnc_journal.specs.Heads as Heads;
@@ -28,7 +28,7 @@ impl Journal {
     pub fn asked(&self, req: Req) -> Option<&Entry>
         ensures entry { option_copied result
             ≡ option_and_then (λ i. Found.entry_at i self.now.history) (Links.ask_at req.0 self.now.history) }
-        ensures asked { option_map (λ a. record a { before = [] }) (Found.asked req.0 self.now.history)
+        ensures asked { option_map Found.said (Found.asked req.0 self.now.history)
             ≡ option_and_then (λ e. Found.asked_here req.0 e.moment [] e.event) (option_copied result) }
     {
         self.entry_of(self.ask_at(req))
@@ -59,7 +59,7 @@ impl Journal {
     pub fn registration(&self, reg: Reg) -> Option<&Registration>
         ensures { option_copied result ≡ Found.registration reg.0 self.now.history }
     {
-        match self.entry_of(self.index().firsts.devices.get(reg.0)) {
+        match self.entry_of(self.device_at(reg)) {
             Some(entry) => registration_here(&entry.event, reg),
             None => None,
         }
@@ -69,8 +69,7 @@ impl Journal {
     fn least_registration(&self, name: &str) -> Option<u32>
         ensures { result ≡ Registered.least_registration name.now self.now.history }
     {
-        let heads = self.index().lanes.as_slice();
-        match heads.iter().rev().find(|i| self.named_at(name, **i).is_some()) {
+        match newest_head(self, self.index().lanes.as_slice(), name) {
             Some(index) => self.named_at(name, *index),
             None => None,
         }
@@ -134,6 +133,16 @@ impl Journal {
     {
         self.reply_at(req).is_some()
     }
+}
+
+/// The newest of these entries that gives a name a registration.
+fn newest_head<'a>(journal: &Journal, heads: &'a [u32], name: &str) -> Option<&'a u32>
+    ensures { option_copied result ≡ find (λ i. is_some (Heads.named_at name.now journal.now.history i)) (reverse heads.now) }
+{
+    heads
+        .iter()
+        .rev()
+        .find(|i| journal.named_at(name, **i).is_some())
 }
 
 fn requested_here(event: &Event, req: Req) -> Option<&Request>
