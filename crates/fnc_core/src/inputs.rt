@@ -1,51 +1,22 @@
 // Inputs that enter: what touches no operation, an operator's word, and the exit of a run.
 
-ghost use Rattle.std.specs.Prelude.{◌≡◌, ◌||◌, true, Some};
+ghost use Rattle.std.specs.Prelude.{◌≡◌, true, Some};
 ghost use Rattle.fnc_journal.specs.declared.event.Event.{Event};
 ghost use Rattle.fnc_journal.specs.Found as Found;
 ghost use Rattle.fnc_journal.specs.Startable as Startable;
 ghost use Rattle.fnc_journal.specs.Lawful.{in_order};
 ghost use Rattle.fnc_core.specs.Between.{Between, Rests, Adds, RoomFor, is_quiet, IsBoundedEvent};
 
-use crate::lanes::lane_of;
 use crate::parts::Parts;
 use crate::queueing::requeue;
-use fnc_journal::{Confirmation, Ended, Entry, Event, Journal, Run, Start};
-
-/// Whether an event is the exit of a run.
-fn is_exit_of(event: &Event, run: Run) -> bool
-    ensures { result ≡ Found.is_exit_of run.0 event.now }
-{
-    match event {
-        Event::Exit(Ended { run: number, .. }) => run.0 == number.0,
-        _ => false,
-    }
-}
-
-/// Whether the exit of a run was found, or an event is that.
-fn is_exit_after(earlier: bool, event: &Event, run: Run) -> bool
-    ensures { result ≡ (Found.is_exit_of run.0 event.now || earlier) }
-{
-    is_exit_of(event, run) || earlier
-}
-
-/// Whether a run has had its exit.
-fn has_exit(journal: &Journal, run: Run) -> bool
-    ensures { result ≡ Found.has_exit run.0 journal.now.history }
-{
-    let mut found = false;
-    for index in 0..journal.len() {
-        found = is_exit_after(found, &journal.entry(index).event, run);
-    }
-    found
-}
+use fnc_journal::{Confirmation, Ended, Entry, Event, Run, Start};
 
 impl Parts {
     /// Whether a run is alive.
     pub fn is_alive(&self, run: Run) -> bool
         ensures { result ≡ Startable.is_alive run.0 self.now.history }
     {
-        self.journal.start_of(run).is_some() && !has_exit(&self.journal, run)
+        self.journal.is_alive(run)
     }
 
     /// An input comes that touches no operation.
@@ -84,7 +55,7 @@ impl Parts {
         ensures adds { Adds moment (Event.Exit ended) self.old self.new }
     {
         self.ops.ended(&self.journal, ended, moment);
-        self.queue.ended(lane_of(&self.journal, start.reg));
+        self.queue.ended(self.journal.lane(start.reg));
         self.journal.push(Entry {
             moment,
             event: Event::Exit(ended),

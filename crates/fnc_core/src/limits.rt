@@ -1,7 +1,6 @@
 // The limit of a slot, at which an exit no longer counts.
 
-ghost use Rattle.std.specs.Prelude.{◌≡◌, ◌≤◌, ◌^◌, Some, find};
-ghost use Rattle.fnc_journal.specs.Found as Found;
+ghost use Rattle.std.specs.Prelude.{◌≡◌, ◌≤◌, ◌^◌, Some};
 ghost use Rattle.fnc_journal.specs.Slots.{Operation};
 ghost use Rattle.fnc_journal.specs.Operations as Operations;
 ghost use Rattle.fnc_journal.specs.Lawful.{Lawful};
@@ -21,22 +20,15 @@ fn over_by(entry: &Entry) -> u64
     }
 }
 
-/// The same of the newest request of a number, 0 where there is none.
-fn latest_over(journal: &Journal, req: Req) -> u64
-    ensures { result ≡ Limits.over_in (find (λ e. Found.is_ask_of req.0 e.event) journal.now.history) }
-{
-    match journal.latest_ask(req) {
-        Some(entry) => over_by(entry),
-        None => 0,
-    }
-}
-
 /// When the total time of an operation is over.
 fn over_of(journal: &Journal, req: Req) -> u64
     requires { Lawful journal.now.history }
     ensures { (o : Operation) → Operations.operation req.0 journal.now.history ≡ Some o → result ≡ o.over }
 {
-    latest_over(journal, req)
+    match journal.asked(req) {
+        Some(entry) => over_by(entry),
+        None => 0,
+    }
 }
 
 /// How long an action of a registration may take.

@@ -1,3 +1,6 @@
+pub mod Finds
+pub mod Heads
+pub mod Tables
 pub mod Forwards
 pub mod Frames
 pub mod ActsLemmas

@@ -4,16 +4,24 @@
 
 mod boxed;
 mod cause;
+mod cells;
+mod chains;
 mod definition;
 mod entry;
 mod event;
+mod firsts;
+mod index;
 mod journal;
+mod lanes;
 pub mod limits;
+mod links;
+mod lookups;
 mod names;
 mod option;
 mod outcome;
 mod plan;
 mod sequence;
+mod stray;
 #[cfg(test)]
 mod tests;
 mod text;

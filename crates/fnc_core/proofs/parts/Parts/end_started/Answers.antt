@@ -16,7 +16,7 @@ ended-requires-2 c =
     let rests : Rests c.args.moment p = subst (λ (v : Parted). Rests c.args.moment v) (sym c.self.view_is) c.requires.rests in
     let lives : is_alive c.args.ended.run.0 p.history ≡ true = ap (λ (v : Parted). is_alive c.args.ended.run.0 v.history) c.self.view_is ∙ c.requires.alive in
     let was : started c.args.ended.run.0 p.history ≡ Some c.args.start = ap (λ (v : Parted). started c.args.ended.run.0 v.history) c.self.view_is ∙ c.requires.started in
-    subst (λ n. 0 < lane_count n p.queue.alive) (sym c.lane_of.ensures) (lane-runs c.args.moment p rests c.args.ended lives c.args.start was)
+    subst (λ n. 0 < lane_count n p.queue.alive) (sym c.lane.ensures) (lane-runs c.args.moment p rests c.args.ended lives c.args.start was)
 
 pub push-requires : goal.push-requires
 push-requires c =
@@ -34,5 +34,5 @@ returns-clause-between c =
     let lives : is_alive c.args.ended.run.0 p.history ≡ true = ap (λ (v : Parted). is_alive c.args.ended.run.0 v.history) c.self.view_is ∙ c.requires.alive in
     let was : started c.args.ended.run.0 p.history ≡ Some c.args.start = ap (λ (v : Parted). started c.args.ended.run.0 v.history) c.self.view_is ∙ c.requires.started in
     between-ended c.args.moment p rests c.args.ended lives c.args.start was c.ended-2.new.self q (record { history = c.push.ensures.history; limit = c.push.ensures.limit })
-    (c.ended-2.ensures.after ∙ ap (λ n. ended n p.queue) c.lane_of.ensures) (subst (λ n. CountsOneMore n c.ended-2.new.self.alive p.queue.alive) c.lane_of.ensures c.ended-2.ensures.counts)
+    (c.ended-2.ensures.after ∙ ap (λ n. ended n p.queue) c.lane.ensures) (subst (λ n. CountsOneMore n c.ended-2.new.self.alive p.queue.alive) c.lane.ensures c.ended-2.ensures.counts)
     c.requeue.ensures.changes c.requeue.ensures.alive c.requeue.ensures.places c.ended.ensures.stands c.ended.ensures.at (c.ended.ensures.others c.args.start was)

@@ -1,14 +1,19 @@
--- The first entry of the list is the last of the history.
+-- The entry at which the index points is the first start of the run.
 use Rattle.std.proofs.Common.{◌∙◌, sym, ap}
+use Rattle.std.specs.Prelude.{option_and_then}
 use Rattle.fnc_journal.specs.declared.entry.Entry.{Entry}
-use Rattle.fnc_journal.specs.History.{Journaled}
-use Rattle.fnc_journal.specs.Found.{started, started_here}
-use Rattle.fnc_journal.specs.Forward.{found}
-use Rattle.fnc_journal.proofs.Forwards.{found-reverse}
+use Rattle.fnc_journal.specs.Found.{entry_at, started_here}
+use Rattle.fnc_journal.proofs.Finds.{started-at}
 use Rattle.fnc_journal.proofs.journal.Journal.start_of.Goals as goal
 
-pub returns : goal.returns
-returns c =
-    let said = λ (e : Entry). started_here c.args.run.0 e.event in
-    c.start_in.ensures ∙ ap (found said) c.deref.ensures.value ∙ sym (found-reverse said c.self.inside.entries.items)
-    ∙ ap (λ (j : Journaled). started c.args.run.0 j.history) c.self.view_is
+pub returns-in-Some : goal.returns-in-Some
+returns-in-Some c =
+    let h = c.args.self.now.history in
+    let said = option_and_then (λ (e : Entry). started_here c.args.run.0 e.event) in
+    c.started_here.ensures ∙ ap said (c.in-Some.ensures ∙ ap (option_and_then (λ i. entry_at i h)) c.start_at.ensures) ∙ sym (started-at c.args.run.0 h)
+
+pub returns-in-None : goal.returns-in-None
+returns-in-None c =
+    let h = c.args.self.now.history in
+    let said = option_and_then (λ (e : Entry). started_here c.args.run.0 e.event) in
+    ap said (c.in-None.ensures ∙ ap (option_and_then (λ i. entry_at i h)) c.start_at.ensures) ∙ sym (started-at c.args.run.0 h)
