@@ -39,7 +39,11 @@ impl Cells {
     {
         let cells = Vec::with_capacity(alloc, room as usize)?;
         let strays = Vec::with_capacity(alloc, room as usize)?;
-        Ok(Cells { cells, strays, room })
+        Ok(Cells {
+            cells,
+            strays,
+            room,
+        })
     }
 
     /// What stands under a number.
