@@ -19,7 +19,7 @@ entry_at-push e h i l = let other : (i == length h) ≡ false = ne_eqb i (length
 pub entry_at-newest : (e : Entry) (h : History) → entry_at (length h) (e ∷ h) ≡ Some e
 entry_at-newest e h = let same : (length h == length h) ≡ true = eq-eqb (length h) (length h) refl in rw same refl
 
-earlier_stays : {X : Type 0} (x y : Option X) → is_some x ≡ true → or_here x y ≡ x
+pub earlier_stays : {X : Type 0} (x y : Option X) → is_some x ≡ true → or_here x y ≡ x
 earlier_stays None y e = cc
 earlier_stays (Some x) None e = refl
 earlier_stays (Some x) (Some y) e = refl

@@ -1,4 +1,5 @@
 pub mod Finds
+pub mod SettledLanes
 pub mod Heads
 pub mod Tables
 pub mod Forwards

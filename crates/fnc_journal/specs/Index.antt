@@ -1,12 +1,13 @@
 -- What the index of a journal says: each table is the search of the journal.
-use Rattle.std.specs.Prelude.{ℕ, List, ◌≡◌, ◌<◌, ◌≤◌, Option, length}
+use Rattle.std.specs.Prelude.{ℕ, List, true, ◌≡◌, ◌<◌, ◌≤◌, Option, length}
 use Rattle.std.specs.List.{AllByRecursion}
 use Rattle.fnc_journal.specs.declared.firsts.Firsts.{Firsts}
+use Rattle.fnc_journal.specs.declared.homes.Homes.{Homes}
 use Rattle.fnc_journal.specs.declared.chains.Chains.{Chains}
 use Rattle.fnc_journal.specs.declared.index.Index.{Index}
 use Rattle.fnc_journal.specs.History.{History}
 use Rattle.fnc_journal.specs.Table.{Table, under}
-use Rattle.fnc_journal.specs.Heads.{Heads, least_among}
+use Rattle.fnc_journal.specs.Heads.{Heads, least_among, lane_found}
 use Rattle.fnc_journal.specs.Registered.{least_registration}
 use Rattle.fnc_journal.specs.Links.{ask_at, reply_at, start_at, exit_at, device_at, latest, earlier}
 
@@ -36,8 +37,15 @@ pub record AreHeads (limit : ℕ) (h : History) (l : Heads) : Type 0 where
   pub room : l.room ≡ limit
   pub few : length l.entries ≤ length h
 
+-- the lane of each registration, while none was lowered
+pub record AreHomes (limit : ℕ) (h : History) (x : Homes) : Type 0 where
+  pub lanes : x.settled ≡ true → (n : ℕ) → under n x.lanes ≡ lane_found n h
+  pub room : x.lanes.room ≡ limit
+  pub strays : length x.lanes.strays ≤ length h
+
 -- the whole index
 pub record IsIndex (limit : ℕ) (h : History) (x : Index) : Type 0 where
   pub firsts : AreFirsts limit h x.firsts
   pub chains : AreChains limit h x.chains
   pub lanes : AreHeads limit h x.lanes
+  pub homes : AreHomes limit h x.homes

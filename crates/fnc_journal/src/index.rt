@@ -10,7 +10,8 @@ use crate::chains::Chains;
 use crate::entry::Req;
 use crate::event::Event;
 use crate::firsts::Firsts;
-use crate::lanes::Lanes;
+use crate::homes::Homes;
+use crate::lanes::{Lanes, lowers};
 use crate::outcome::NoMemory;
 use std::alloc::Global;
 
@@ -20,6 +21,7 @@ pub(crate) struct Index {
     pub firsts: Firsts,
     pub chains: Chains,
     pub lanes: Lanes,
+    pub homes: Homes,
 }
 
 impl Index {
@@ -30,22 +32,25 @@ impl Index {
         let firsts = Firsts::with_room(alloc, room)?;
         let chains = Chains::with_room(alloc, room)?;
         let lanes = Lanes::with_room(alloc, room)?;
+        let homes = Homes::with_room(alloc, room)?;
         Ok(Index {
             firsts,
             chains,
             lanes,
+            homes,
         })
     }
 
-    /// An entry comes: its event, the operation that it is of, whether it lowers the lane of a name, and
-    /// its index.
-    pub fn enter(&mut self, event: &Event, operation: Option<Req>, lowers: bool, at: u32)
+    /// An entry comes: its event, the operation that it is of, the least registration so far of the name
+    /// that it registers, and its index.
+    pub fn enter(&mut self, event: &Event, operation: Option<Req>, least: Option<u32>, at: u32)
         ensures { (room moment : ℕ) (h : History) → length h ≡ at → at < room →
-            option_map (λ o. o.0) operation ≡ operation_here h event.now → lowers ≡ Heads.lowers h event.now →
+            option_map (λ o. o.0) operation ≡ operation_here h event.now → least ≡ Heads.least_here h event.now →
             IsIndex room h self.old → IsIndex room (record { moment = moment; event = event.now } ∷ h) self.new }
     {
         self.firsts.enter(event, at);
         self.chains.enter(operation, at);
-        self.lanes.enter(lowers, at);
+        self.lanes.enter(lowers(event, least), at);
+        self.homes.enter(event, least);
     }
 }

@@ -57,8 +57,8 @@ impl Journal {
     {
         let at = self.len();
         let operation = self.operation_of(&entry.event);
-        let lowers = self.lowers_lane(&entry.event);
-        self.index.enter(&entry.event, operation, lowers, at);
+        let least = self.least_of(&entry.event);
+        self.index.enter(&entry.event, operation, least, at);
         self.entries.push_reserved(entry);
     }
 

@@ -6,6 +6,7 @@ ghost use Rattle.fnc_journal.specs.History.{History};
 ghost use Rattle.fnc_journal.specs.Heads as Heads;
 ghost use Rattle.fnc_journal.specs.Index.{AreHeads};
 
+use crate::event::Event;
 use crate::outcome::NoMemory;
 use std::alloc::Global;
 use std::marker::Model;
@@ -61,5 +62,18 @@ impl Lanes {
         ensures room { self.new.room ≡ self.old.room }
     {
         let _ = self.heads.push(at);
+    }
+}
+
+/// Whether an event gives a name a lesser registration than the least so far.
+pub(crate) fn lowers(event: &Event, least: Option<u32>) -> bool
+    ensures { result ≡ Heads.lowers_below least event.now }
+{
+    match event {
+        Event::Device(device) => match least {
+            Some(number) => device.reg.0 < number,
+            None => true,
+        },
+        _ => false,
     }
 }

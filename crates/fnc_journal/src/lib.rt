@@ -10,7 +10,10 @@ mod definition;
 mod entry;
 mod event;
 mod firsts;
+mod homes;
 mod index;
+#[cfg(test)]
+mod index_tests;
 mod journal;
 mod lanes;
 pub mod limits;

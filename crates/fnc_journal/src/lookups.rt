@@ -89,6 +89,18 @@ impl Journal {
     pub fn lane(&self, reg: Reg) -> Reg
         ensures { result.0 ≡ Registered.lane reg.0 self.now.history }
     {
+        let homes = &self.index().homes;
+        if homes.settled {
+            Reg(homes.lanes.get(reg.0).unwrap_or(reg.0))
+        } else {
+            self.lane_by_name(reg)
+        }
+    }
+
+    /// The same by a search of the name.
+    fn lane_by_name(&self, reg: Reg) -> Reg
+        ensures { result.0 ≡ Registered.lane reg.0 self.now.history }
+    {
         match self.registration(reg) {
             None => reg,
             Some(registration) => match self.least_registration(registration.name.as_str()) {
@@ -98,18 +110,15 @@ impl Journal {
         }
     }
 
-    /// Whether an event would give a name a lesser registration than it has.
-    pub(crate) fn lowers_lane(&self, event: &Event) -> bool
-        ensures { result ≡ Heads.lowers self.now.history event.now }
+    /// The least registration so far of the name that an event registers.
+    pub(crate) fn least_of(&self, event: &Event) -> Option<u32>
+        ensures { result ≡ Heads.least_here self.now.history event.now }
     {
         match event {
             Event::Device(device) => {
-                match self.least_registration(device.registration.get().name.as_str()) {
-                    Some(least) => device.reg.0 < least,
-                    None => true,
-                }
+                self.least_registration(device.registration.get().name.as_str())
             }
-            _ => false,
+            _ => None,
         }
     }
 

@@ -3,7 +3,7 @@ use Rattle.std.proofs.Common.{◌≡◌, ◌∙◌, ◌<◌, ◌≤◌, ◌∷�
 use Rattle.std.proofs.lemmas.List.{reverse-append, length-reverse}
 use Rattle.fnc_journal.specs.History.{History, Journaled}
 use Rattle.fnc_journal.specs.Links.{operation_here}
-use Rattle.fnc_journal.specs.Heads.{lowers}
+use Rattle.fnc_journal.specs.Heads.{least_here}
 use Rattle.fnc_journal.specs.Index.{IsIndex}
 use Rattle.fnc_journal.proofs.journal.Journal.push.Goals as goal
 
@@ -17,12 +17,12 @@ invariant_of-self c =
     let long : length (reverse items) ≡ c.len-at.result = ap length history ∙ sym c.len-at.ensures in
     let room : c.len-at.result < j.limit = omega (arith, limit, long) in
     let operation = c.operation_of-operation.ensures ∙ ap (λ (h : History). operation_here h event) (sym history) in
-    let lowered = c.lowers_lane-lowers.ensures ∙ ap (λ (h : History). lowers h event) (sym history) in
+    let least = c.least_of-least.ensures ∙ ap (λ (h : History). least_here h event) (sym history) in
     let pushed : reverse c.push_reserved.new.self.items ≡ c.args.entry ∷ reverse items =
     ap reverse c.push_reserved.ensures.items ∙ reverse-append items (c.args.entry ∷ []) in (
       omega (arith, length-reverse items),
       omega arith,
       c.self.invariant.2,
       subst (λ h. IsIndex j.limit h c.enter.new.self) (sym pushed)
-          (c.enter.ensures j.limit c.args.entry.moment (reverse items) long room operation lowered c.self.invariant.3),
+          (c.enter.ensures j.limit c.args.entry.moment (reverse items) long room operation least c.self.invariant.3),
     )
