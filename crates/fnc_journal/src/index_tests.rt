@@ -131,10 +131,22 @@ fn journal(alloc: Global, case: &[Said]) -> Result<Journal, Fail> {
     Ok(journal)
 }
 
-/// The index of the first entry that passes a test.
-fn first(case: &[Said], test: &impl Fn(Said) -> bool) -> Option<u32> {
+/// Whether it is an entry of that kind and number.
+fn is_of(said: Said, sought: Said) -> bool {
+    match (said, sought) {
+        (Said::Device(a, _), Said::Device(b, _)) => a == b,
+        (Said::Ask(a), Said::Ask(b)) => a == b,
+        (Said::Reply(a), Said::Reply(b)) => a == b,
+        (Said::Start(a, _), Said::Start(b, _)) => a == b,
+        (Said::Exit(a), Said::Exit(b)) => a == b,
+        _ => false,
+    }
+}
+
+/// The index of the first entry of a kind and number.
+fn first(case: &[Said], sought: Said) -> Option<u32> {
     for (i, said) in case.iter().enumerate() {
-        if test(*said) {
+        if is_of(*said, sought) {
             return u32::try_from(i).ok();
         }
     }
@@ -203,16 +215,16 @@ fn lane(case: &[Said], number: u32) -> u32 {
 
 /// Each accessor of a number beside the plain search.
 fn compare_number(rt: &impl Abort, case: &[Said], journal: &Journal, n: u32) {
-    let ask = first(case, &|said| matches!(said, Said::Ask(req) if req == n));
+    let ask = first(case, Said::Ask(n));
     assert_eq!(rt; journal.ask_at(Req(n)), ask);
-    let reply = first(case, &|said| matches!(said, Said::Reply(req) if req == n));
+    let reply = first(case, Said::Reply(n));
     assert_eq!(rt; journal.reply_at(Req(n)), reply);
     let start = first(
         case,
         &|said| matches!(said, Said::Start(run, _) if run == n),
     );
     assert_eq!(rt; journal.start_at(Run(n)), start);
-    let exit = first(case, &|said| matches!(said, Said::Exit(run) if run == n));
+    let exit = first(case, Said::Exit(n));
     assert_eq!(rt; journal.exit_at(Run(n)), exit);
     let device = first(
         case,

@@ -16,11 +16,15 @@ returns-in-Some c = λ limit e h l b p a.
     let room_earlier = a.earlier.room in
     record {
       latest =
-          table-put latest limit e h c.args.self.now.latest c.put.new.self o c.args.at a.latest (c.put.ensures.under (omega arith)) c.put.ensures.strays c.put.ensures.room
+          table-put latest limit e h c.args.self.now.latest c.put.new.self o c.args.at a.latest
+          (c.put.ensures.under (omega arith)) c.put.ensures.strays c.put.ensures.room
           (λ n. latest-newest e h o p n ∙ ap (λ k. cond (o == n) (Some k) (latest n h)) l);
       earlier =
-          table-put earlier limit e h c.args.self.now.earlier c.put-in-Some.new.self c.args.at c.in-Some.index a.earlier (c.put-in-Some.ensures.under (omega arith)) c.put-in-Some.ensures.strays c.put-in-Some.ensures.room
-          (λ n. earlier-newest e h o c.in-Some.index p was n ∙ ap (λ k. cond (k == n) (Some c.in-Some.index) (earlier n h)) l);
+          table-put earlier limit e h c.args.self.now.earlier c.put-in-Some.new.self c.args.at c.in-Some.index
+          a.earlier (c.put-in-Some.ensures.under (omega arith))
+          c.put-in-Some.ensures.strays c.put-in-Some.ensures.room
+          (λ n. earlier-newest e h o c.in-Some.index p was n
+          ∙ ap (λ k. cond (k == n) (Some c.in-Some.index) (earlier n h)) l);
     }
 
 pub returns-in_default : goal.returns-in_default
@@ -32,7 +36,8 @@ returns-in_default c = λ limit e h l b p a.
     let room = a.latest.room in
     record {
       latest =
-          table-put latest limit e h c.args.self.now.latest c.put.new.self o c.args.at a.latest (c.put.ensures.under (omega arith)) c.put.ensures.strays c.put.ensures.room
+          table-put latest limit e h c.args.self.now.latest c.put.new.self o c.args.at a.latest
+          (c.put.ensures.under (omega arith)) c.put.ensures.strays c.put.ensures.room
           (λ n. latest-newest e h o p n ∙ ap (λ k. cond (o == n) (Some k) (latest n h)) l);
       earlier = table-same earlier limit e h c.args.self.now.earlier a.earlier (earlier-none e h none);
     }

@@ -11,6 +11,7 @@ returns c = λ limit moment h l b p q i.
     record {
       firsts = c.enter.ensures limit moment h l b i.firsts;
       chains = c.enter-2.ensures limit e h l b p i.chains;
-      lanes = c.enter-3.ensures limit e h l b (c.lowers.ensures ∙ ap (λ (m : Option ℕ). lowers_below m c.args.event.now) q) i.lanes;
-      homes = c.enter-4.ensures limit moment h room q i.homes;
+      heads = c.enter-3.ensures limit e h l b (c.is_head.ensures
+          ∙ ap (λ (m : Option ℕ). lowers_below m c.args.event.now) q) i.heads;
+      lanes = c.enter-4.ensures limit moment h room q i.lanes;
     }
