@@ -219,17 +219,11 @@ fn compare_number(rt: &impl Abort, case: &[Said], journal: &Journal, n: u32) {
     assert_eq!(rt; journal.ask_at(Req(n)), ask);
     let reply = first(case, Said::Reply(n));
     assert_eq!(rt; journal.reply_at(Req(n)), reply);
-    let start = first(
-        case,
-        &|said| matches!(said, Said::Start(run, _) if run == n),
-    );
+    let start = first(case, Said::Start(n, 0));
     assert_eq!(rt; journal.start_at(Run(n)), start);
     let exit = first(case, Said::Exit(n));
     assert_eq!(rt; journal.exit_at(Run(n)), exit);
-    let device = first(
-        case,
-        &|said| matches!(said, Said::Device(reg, _) if reg == n),
-    );
+    let device = first(case, Said::Device(n, 0));
     assert_eq!(rt; journal.device_at(Reg(n)), device);
     assert_eq!(rt; journal.latest(Req(n)), newest(case, case.len(), n));
     assert_eq!(rt; journal.lane(Reg(n)).0, lane(case, n));
