@@ -27,8 +27,8 @@ use crate::event::Event;
 use crate::outcome::NoMemory;
 use std::alloc::Global;
 
-/// The lanes of registrations as they were made. They stay while no later registration of the same name
-/// has a lesser number, which none of a fencer has.
+/// The lanes of the registrations, as each was made. They are `settled` while no later registration of
+/// the same name had a lesser number, as none of a fencer has.
 #[derive(Debug, Drop)]
 pub(crate) struct Lanes {
     pub by_number: Cells,
