@@ -1,13 +1,10 @@
 -- What the entry says at which an index points is what a search of the journal finds.
-use Rattle.std.proofs.Common.{ℕ, List, [], ◌∷◌, Bool, true, false, ◌≡◌, ◌<◌, ◌≤◌, ◌+◌, refl, ap, sym, ◌∙◌, Option}
+use Rattle.std.proofs.Common.{ℕ, [], ◌∷◌, Bool, true, false, ◌≡◌, ◌<◌, refl, ap, sym, ◌∙◌, Option}
 use Rattle.std.proofs.Common.{Some, None, arith, ◌==◌, ◌||◌, length, ne_eqb, eq-eqb, is_some, cond}
 use Rattle.std.specs.Prelude.{option_and_then, option_map}
 use Rattle.std.specs.List.{list_any}
 use Rattle.fnc_journal.specs.declared.entry.Entry.{Entry}
 use Rattle.fnc_journal.specs.declared.event.Event.{Event}
-use Rattle.fnc_journal.specs.declared.event.Request.{Request}
-use Rattle.fnc_journal.specs.declared.event.Start.{Start}
-use Rattle.fnc_journal.specs.declared.definition.Registration.{Registration}
 use Rattle.fnc_journal.specs.History.{History}
 use Rattle.fnc_journal.specs.Missing.{or_here}
 use Rattle.fnc_journal.specs.Found.{Asked, asked, asked_here, asked_of, said, first_found, entry_at, started}

@@ -1,6 +1,6 @@
 -- The newest entry that gave a name a lesser registration than it had gives it its least one.
-use Rattle.std.proofs.Common.{ℕ, List, [], ◌∷◌, Bool, true, false, ◌≡◌, ◌<◌, ◌≤◌, ◌+◌, refl, ap, sym, ◌∙◌, Option}
-use Rattle.std.proofs.Common.{Some, None, arith, ◌==◌, length, cond, nat_lt, min, is_some, ltb-true, ltb-false}
+use Rattle.std.proofs.Common.{ℕ, List, [], ◌∷◌, Bool, true, false, ◌≡◌, ◌<◌, refl, ap, sym, ◌∙◌, Option}
+use Rattle.std.proofs.Common.{Some, None, arith, length, cond, min, is_some, ltb-true, ltb-false}
 use Rattle.std.specs.Prelude.{option_and_then, bytes_eq, find}
 use Rattle.std.specs.List.{AllByRecursion}
 use Rattle.std.specs.Option.{option_or}
@@ -12,7 +12,7 @@ use Rattle.fnc_journal.specs.Missing.{least_of}
 use Rattle.fnc_journal.specs.Forward.{found}
 use Rattle.fnc_journal.specs.Registered.{named_here, least_registration}
 use Rattle.fnc_journal.specs.Index.{AreHeads}
-use Rattle.fnc_journal.specs.Heads.{HeadList, named_at, least_among, is_less, lowers}
+use Rattle.fnc_journal.specs.Heads.{HeadList, least_among, is_less, lowers}
 use Rattle.fnc_journal.proofs.Finds.{entry_at-push, entry_at-newest}
 
 -- what is found says what it was found for

@@ -1,6 +1,6 @@
 -- A lane that was written down with its registration stays while no later one of the name is less.
 use Rattle.std.proofs.Common.{ℕ, List, [], ◌∷◌, Bool, true, false, ◌≡◌, ◌<◌, ◌≤◌, ◌+◌, refl, ap, sym, ◌∙◌}
-use Rattle.std.proofs.Common.{Option, Some, None, arith, ◌==◌, ◌&&◌, length, cond, nat_le, min, is_some, leb-true}
+use Rattle.std.proofs.Common.{Option, Some, None, arith, ◌==◌, ◌&&◌, length, cond, min, is_some, leb-true}
 use Rattle.std.specs.Prelude.{option_and_then, bytes_eq}
 use Rattle.std.proofs.lemmas.Slice.Eq.{bytes_eq-Decides}
 use Rattle.fnc_journal.specs.declared.definition.Registration.{Registration}

@@ -1,11 +1,10 @@
 -- What a table of the index says after one more entry.
-use Rattle.std.proofs.Common.{ℕ, List, [], ◌∷◌, Bool, true, false, ◌≡◌, ◌<◌, ◌≤◌, ◌+◌, refl, ap, sym, ◌∙◌, Option}
+use Rattle.std.proofs.Common.{ℕ, [], ◌∷◌, Bool, true, false, ◌≡◌, ◌≤◌, ◌+◌, refl, ap, sym, ◌∙◌, Option}
 use Rattle.std.proofs.Common.{Some, None, arith, ◌==◌, length, ne_eqb, eqb-true, cond}
 use Rattle.std.specs.Prelude.{option_and_then}
 use Rattle.fnc_journal.specs.declared.entry.Entry.{Entry}
 use Rattle.fnc_journal.specs.declared.chains.Chains.{Chains}
 use Rattle.fnc_journal.specs.History.{History}
-use Rattle.fnc_journal.specs.Missing.{is_number}
 use Rattle.fnc_journal.specs.Links.{latest, earlier, earlier_here, operation_here}
 use Rattle.fnc_journal.specs.Table.{Table, under}
 use Rattle.fnc_journal.specs.Index.{IsTable, AreChains}

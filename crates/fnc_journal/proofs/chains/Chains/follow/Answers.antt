@@ -1,8 +1,7 @@
 -- The new entry is the newest of its operation, and before it stands what was the newest.
-use Rattle.std.proofs.Common.{◌≡◌, ◌∙◌, ◌<◌, ◌==◌, ℕ, Option, Some, None, sym, ap, arith, cond, length}
+use Rattle.std.proofs.Common.{◌≡◌, ◌∙◌, ◌==◌, Some, None, sym, ap, arith, cond}
 use Rattle.std.specs.Prelude.{option_and_then}
 use Rattle.fnc_journal.specs.Links.{latest, earlier, earlier_here}
-use Rattle.fnc_journal.specs.Index.{IsTable}
 use Rattle.fnc_journal.proofs.Tables.{table-put, table-same, latest-newest, earlier-newest, earlier-none}
 use Rattle.fnc_journal.proofs.chains.Chains.follow.Goals as goal
 

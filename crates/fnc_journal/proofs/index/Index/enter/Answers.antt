@@ -1,5 +1,5 @@
 -- Each part of the index sees the entry.
-use Rattle.std.proofs.Common.{ℕ, ◌≡◌, ◌∙◌, ◌<◌, ap, arith, length, Option}
+use Rattle.std.proofs.Common.{ℕ, ◌∙◌, ◌<◌, ap, arith, length, Option}
 use Rattle.fnc_journal.specs.declared.entry.Entry.{Entry}
 use Rattle.fnc_journal.specs.Heads.{lowers_below}
 use Rattle.fnc_journal.proofs.index.Index.enter.Goals as goal

@@ -1,5 +1,5 @@
 -- What the newest of the entries says that gave the name a lesser registration.
-use Rattle.std.proofs.Common.{◌∙◌, sym, ap, is_some}
+use Rattle.std.proofs.Common.{◌∙◌, ap, is_some}
 use Rattle.std.specs.Prelude.{option_and_then, find}
 use Rattle.fnc_journal.specs.Heads.{named_at}
 use Rattle.fnc_journal.proofs.LeastRegistrations.{found-find}
