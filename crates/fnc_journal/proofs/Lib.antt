@@ -1,6 +1,6 @@
 pub mod Finds
 pub mod SettledLanes
-pub mod Heads
+pub mod LeastRegistrations
 pub mod Tables
 pub mod Forwards
 pub mod Frames

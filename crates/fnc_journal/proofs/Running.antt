@@ -5,7 +5,6 @@ use Rattle.std.specs.List.{list_any}
 use Rattle.fnc_journal.specs.declared.event.Event.{Event}
 use Rattle.fnc_journal.specs.declared.event.Ended.{Ended}
 use Rattle.fnc_journal.specs.declared.event.Start.{Start}
-use Rattle.fnc_journal.specs.declared.entry.Slot.{Slot}
 use Rattle.fnc_journal.specs.History.{History}
 use Rattle.fnc_journal.specs.Found.{starts, started, started_here, has_exit}
 use Rattle.fnc_journal.specs.Missing.{or_here, append_some}

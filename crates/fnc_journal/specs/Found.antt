@@ -1,6 +1,7 @@
 -- What is found in a journal: how many devices, requests and runs it has, and the entry of each number.
 -- Where several entries bear one number, the entry of that number is the first of them.
-use Rattle.std.specs.Prelude.{ℕ, List, [], ◌∷◌, Bool, true, false, length, ◌==◌, if◌then◌else◌, Option, Some, None, ◌+◌}
+use Rattle.std.specs.Prelude.{ℕ, List, [], ◌∷◌, Bool, true, false, length, ◌==◌, if◌then◌else◌, Option, Some, None}
+use Rattle.std.specs.Prelude.{◌+◌}
 use Rattle.std.specs.List.{list_any}
 use Rattle.fnc_journal.specs.declared.entry.Entry.{Entry}
 use Rattle.fnc_journal.specs.declared.event.Event.{Event}
@@ -98,12 +99,23 @@ pub record Asked : Type 0 where
   pub scope : Scope
   pub before : History
 
+-- what a request says that came at a moment
+abbrev pub asked_of : ℕ → History → Request → Asked
+asked_of moment before ask =
+    record {
+      moment = moment;
+      lead = ask.lead.0;
+      kind = ask.kind;
+      target = ask.target;
+      total = ask.total;
+      coin = ask.coin;
+      scope = ask.scope;
+      before = before;
+    }
+
 -- what an entry says of the request of a number
 abbrev pub asked_here : ℕ → ℕ → History → Event → Option Asked
-asked_here r moment before (Event.Ask ask) =
-    if r == ask.req.0
-    then Some (record { moment = moment; lead = ask.lead.0; kind = ask.kind; target = ask.target; total = ask.total; coin = ask.coin; scope = ask.scope; before = before })
-    else None
+asked_here r moment before (Event.Ask ask) = if r == ask.req.0 then Some (asked_of moment before ask) else None
 asked_here r moment before _ = None
 
 -- the request of a number, and what lies before it

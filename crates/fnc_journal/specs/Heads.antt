@@ -9,7 +9,7 @@ use Rattle.fnc_journal.specs.Found.{entry_at, registration}
 use Rattle.fnc_journal.specs.Registered.{named_here, least_registration}
 
 -- the entries that each gave a name a lesser registration than it had, the newest first, and how many there may be
-pub record Heads : Type 0 where
+pub record HeadList : Type 0 where
   pub entries : List ℕ
   pub room : ℕ
 

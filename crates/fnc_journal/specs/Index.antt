@@ -2,12 +2,12 @@
 use Rattle.std.specs.Prelude.{ℕ, List, true, ◌≡◌, ◌<◌, ◌≤◌, Option, length}
 use Rattle.std.specs.List.{AllByRecursion}
 use Rattle.fnc_journal.specs.declared.firsts.Firsts.{Firsts}
-use Rattle.fnc_journal.specs.declared.homes.Homes.{Homes}
+use Rattle.fnc_journal.specs.declared.lanes.Lanes.{Lanes}
 use Rattle.fnc_journal.specs.declared.chains.Chains.{Chains}
 use Rattle.fnc_journal.specs.declared.index.Index.{Index}
 use Rattle.fnc_journal.specs.History.{History}
 use Rattle.fnc_journal.specs.Table.{Table, under}
-use Rattle.fnc_journal.specs.Heads.{Heads, least_among, lane_found}
+use Rattle.fnc_journal.specs.Heads.{HeadList, least_among, lane_found}
 use Rattle.fnc_journal.specs.Registered.{least_registration}
 use Rattle.fnc_journal.specs.Links.{ask_at, reply_at, start_at, exit_at, device_at, latest, earlier}
 
@@ -31,21 +31,21 @@ pub record AreChains (limit : ℕ) (h : History) (c : Chains) : Type 0 where
   pub earlier : IsTable earlier limit h c.earlier
 
 -- the least registration of each name
-pub record AreHeads (limit : ℕ) (h : History) (l : Heads) : Type 0 where
+pub record AreHeads (limit : ℕ) (h : History) (l : HeadList) : Type 0 where
   pub least : (name : List ℕ) → least_among name l.entries h ≡ least_registration name h
   pub within : AllByRecursion (λ i. i < length h) l.entries
   pub room : l.room ≡ limit
   pub few : length l.entries ≤ length h
 
 -- the lane of each registration, while none was lowered
-pub record AreHomes (limit : ℕ) (h : History) (x : Homes) : Type 0 where
-  pub lanes : x.settled ≡ true → (n : ℕ) → under n x.lanes ≡ lane_found n h
-  pub room : x.lanes.room ≡ limit
-  pub strays : length x.lanes.strays ≤ length h
+pub record AreLanes (limit : ℕ) (h : History) (x : Lanes) : Type 0 where
+  pub lanes : x.settled ≡ true → (n : ℕ) → under n x.by_number ≡ lane_found n h
+  pub room : x.by_number.room ≡ limit
+  pub strays : length x.by_number.strays ≤ length h
 
 -- the whole index
 pub record IsIndex (limit : ℕ) (h : History) (x : Index) : Type 0 where
   pub firsts : AreFirsts limit h x.firsts
   pub chains : AreChains limit h x.chains
-  pub lanes : AreHeads limit h x.lanes
-  pub homes : AreHomes limit h x.homes
+  pub heads : AreHeads limit h x.heads
+  pub lanes : AreLanes limit h x.lanes

@@ -1,6 +1,7 @@
 -- Where in a journal each thing stands: the index of its entry, counted from 0 at the oldest. Where several entries
--- bear one number, the first of them counts. An entry of an operation is a start of one of its runs, or the exit of one.
-use Rattle.std.specs.Prelude.{ℕ, [], ◌∷◌, Bool, ◌==◌, length, if◌then◌else◌, Option, Some, None, option_map, option_and_then}
+-- bear one number, the first of them counts. The entries of an operation are the starts and exits of its runs.
+use Rattle.std.specs.Prelude.{ℕ, [], ◌∷◌, Bool, ◌==◌, length, if◌then◌else◌, Option, Some, None, option_map}
+use Rattle.std.specs.Prelude.{option_and_then}
 use Rattle.fnc_journal.specs.declared.event.Event.{Event}
 use Rattle.fnc_journal.specs.declared.event.Start.{Start}
 use Rattle.fnc_journal.specs.History.{History}

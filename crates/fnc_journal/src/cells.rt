@@ -1,6 +1,7 @@
 // A table of the index of a journal.
 
-ghost use Rattle.std.specs.Prelude.{ℕ, ◌≡◌, ◌<◌, ◌≤◌, ◌+◌, ◌==◌, Option, Some, None, IfOk, length, vec_len, vec_capacity, slice_index_or, option_map, find, reverse, if◌then◌else◌};
+ghost use Rattle.std.specs.Prelude.{ℕ, ◌≡◌, ◌<◌, ◌≤◌, ◌+◌, ◌==◌, Option, Some, None, IfOk, length, vec_len};
+ghost use Rattle.std.specs.Prelude.{vec_capacity, slice_index_or, option_map, find, reverse, if◌then◌else◌};
 ghost use Rattle.std.specs.Option.{option_copied};
 ghost use Rattle.fnc_journal.specs.Missing.{or_here};
 ghost use Rattle.fnc_journal.specs.Table.{under};

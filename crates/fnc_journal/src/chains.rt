@@ -31,7 +31,8 @@ impl Chains {
     /// An entry of an operation comes, or one of none.
     pub fn enter(&mut self, operation: Option<Req>, at: u32)
         ensures { (room : ℕ) (e : Entry) (h : History) → length h ≡ at → at < room →
-            option_map (λ o. o.0) operation ≡ operation_here h e.event → AreChains room h self.old → AreChains room (e ∷ h) self.new }
+            option_map (λ o. o.0) operation ≡ operation_here h e.event → AreChains room h self.old →
+            AreChains room (e ∷ h) self.new }
     {
         if let Some(req) = operation {
             self.follow(req, at);

@@ -3,15 +3,15 @@
 ghost use Rattle.std.specs.Prelude.{ℕ, ◌≡◌, ◌<◌, ◌∷◌, [], length, IfOk, option_map};
 ghost use Rattle.fnc_journal.specs.History.{History};
 ghost use Rattle.fnc_journal.specs.Links.{operation_here};
-ghost use Rattle.fnc_journal.specs.Heads as Heads;
+ghost use Rattle.fnc_journal.specs.Heads.{least_here};
 ghost use Rattle.fnc_journal.specs.Index.{IsIndex};
 
 use crate::chains::Chains;
 use crate::entry::Req;
 use crate::event::Event;
 use crate::firsts::Firsts;
-use crate::homes::Homes;
-use crate::lanes::{Lanes, lowers};
+use crate::heads::{Heads, is_head};
+use crate::lanes::Lanes;
 use crate::outcome::NoMemory;
 use std::alloc::Global;
 
@@ -20,8 +20,8 @@ use std::alloc::Global;
 pub(crate) struct Index {
     pub firsts: Firsts,
     pub chains: Chains,
+    pub heads: Heads,
     pub lanes: Lanes,
-    pub homes: Homes,
 }
 
 impl Index {
@@ -31,13 +31,13 @@ impl Index {
     {
         let firsts = Firsts::with_room(alloc, room)?;
         let chains = Chains::with_room(alloc, room)?;
+        let heads = Heads::with_room(alloc, room)?;
         let lanes = Lanes::with_room(alloc, room)?;
-        let homes = Homes::with_room(alloc, room)?;
         Ok(Index {
             firsts,
             chains,
+            heads,
             lanes,
-            homes,
         })
     }
 
@@ -45,12 +45,12 @@ impl Index {
     /// that it registers, and its index.
     pub fn enter(&mut self, event: &Event, operation: Option<Req>, least: Option<u32>, at: u32)
         ensures { (room moment : ℕ) (h : History) → length h ≡ at → at < room →
-            option_map (λ o. o.0) operation ≡ operation_here h event.now → least ≡ Heads.least_here h event.now →
+            option_map (λ o. o.0) operation ≡ operation_here h event.now → least ≡ least_here h event.now →
             IsIndex room h self.old → IsIndex room (record { moment = moment; event = event.now } ∷ h) self.new }
     {
         self.firsts.enter(event, at);
         self.chains.enter(operation, at);
-        self.lanes.enter(lowers(event, least), at);
-        self.homes.enter(event, least);
+        self.heads.enter(is_head(event, least), at);
+        self.lanes.enter(event, least);
     }
 }

@@ -14,7 +14,7 @@ use std::mem::size_of;
 use std::process::Abort;
 use std::test::Fail;
 
-/// An entry, by what the index keeps of it: a device with the one of two names, a start with its operation.
+/// An entry, by what the index keeps of it: a device with one of two names, a start with its operation.
 #[derive(Clone, Copy)]
 enum Said {
     Device(u32, u8),
@@ -131,10 +131,22 @@ fn journal(alloc: Global, case: &[Said]) -> Result<Journal, Fail> {
     Ok(journal)
 }
 
-/// The index of the first entry that passes a test.
-fn first(case: &[Said], test: &impl Fn(Said) -> bool) -> Option<u32> {
+/// Whether it is an entry of that kind and number.
+fn is_of(said: Said, sought: Said) -> bool {
+    match (said, sought) {
+        (Said::Device(a, _), Said::Device(b, _)) => a == b,
+        (Said::Ask(a), Said::Ask(b)) => a == b,
+        (Said::Reply(a), Said::Reply(b)) => a == b,
+        (Said::Start(a, _), Said::Start(b, _)) => a == b,
+        (Said::Exit(a), Said::Exit(b)) => a == b,
+        _ => false,
+    }
+}
+
+/// The index of the first entry of a kind and number.
+fn first(case: &[Said], sought: Said) -> Option<u32> {
     for (i, said) in case.iter().enumerate() {
-        if test(*said) {
+        if is_of(*said, sought) {
             return u32::try_from(i).ok();
         }
     }
@@ -201,126 +213,130 @@ fn lane(case: &[Said], number: u32) -> u32 {
     }
 }
 
-/// Each accessor of a number beside the plain search.
-fn compare_number(rt: &impl Abort, case: &[Said], journal: &Journal, n: u32) {
-    let ask = first(case, &|said| matches!(said, Said::Ask(req) if req == n));
-    assert_eq!(rt; journal.ask_at(Req(n)), ask);
-    let reply = first(case, &|said| matches!(said, Said::Reply(req) if req == n));
-    assert_eq!(rt; journal.reply_at(Req(n)), reply);
-    let start = first(
-        case,
-        &|said| matches!(said, Said::Start(run, _) if run == n),
-    );
-    assert_eq!(rt; journal.start_at(Run(n)), start);
-    let exit = first(case, &|said| matches!(said, Said::Exit(run) if run == n));
-    assert_eq!(rt; journal.exit_at(Run(n)), exit);
-    let device = first(
-        case,
-        &|said| matches!(said, Said::Device(reg, _) if reg == n),
-    );
-    assert_eq!(rt; journal.device_at(Reg(n)), device);
-    assert_eq!(rt; journal.latest(Req(n)), newest(case, case.len(), n));
-    assert_eq!(rt; journal.lane(Reg(n)).0, lane(case, n));
-    assert_eq!(rt; journal.is_alive(Run(n)), start.is_some() && exit.is_none());
-    assert_eq!(rt; journal.is_answered(Req(n)), reply.is_some());
-    assert_eq!(rt; journal.request(Req(n)).is_some(), ask.is_some());
+/// Whether the first entries of a number are those of the plain searches.
+fn firsts_agree(case: &[Said], journal: &Journal, n: u32) -> bool {
+    journal.ask_at(Req(n)) == first(case, Said::Ask(n))
+        && journal.reply_at(Req(n)) == first(case, Said::Reply(n))
+        && journal.start_at(Run(n)) == first(case, Said::Start(n, 0))
+        && journal.exit_at(Run(n)) == first(case, Said::Exit(n))
+        && journal.device_at(Reg(n)) == first(case, Said::Device(n, 0))
 }
 
-/// Each accessor beside the plain search, for each number and index.
+/// Whether what is said of a number is what the plain searches say.
+fn lookups_agree(case: &[Said], journal: &Journal, n: u32) -> bool {
+    let starts = first(case, Said::Start(n, 0)).is_some();
+    let exits = first(case, Said::Exit(n)).is_some();
+    let replies = first(case, Said::Reply(n)).is_some();
+    let asks = first(case, Said::Ask(n)).is_some();
+    journal.latest(Req(n)) == newest(case, case.len(), n)
+        && journal.lane(Reg(n)).0 == lane(case, n)
+        && journal.is_alive(Run(n)) == (starts && !exits)
+        && journal.is_answered(Req(n)) == replies
+        && journal.request(Req(n)).is_some() == asks
+}
+
+/// The entry of the same operation before an entry.
+fn before(case: &[Said], index: u32) -> Option<u32> {
+    let req = operation(case, index as usize)?;
+    newest(case, index as usize, req)
+}
+
+/// Whether what stands before each entry is what the plain search says.
+fn chains_agree(case: &[Said], journal: &Journal) -> bool {
+    for i in 0..journal.len() {
+        if journal.earlier(i) != before(case, i) {
+            return false;
+        }
+    }
+    true
+}
+
+/// Whether all accessors agree with the plain searches, for each number and index.
+fn agrees(case: &[Said], journal: &Journal) -> bool {
+    for n in &NUMBERS {
+        if !firsts_agree(case, journal, *n) || !lookups_agree(case, journal, *n) {
+            return false;
+        }
+    }
+    chains_agree(case, journal)
+}
+
 fn compare(rt: &(impl Abort + AllocGlobal), case: &[Said]) -> Result<(), Fail> {
     let journal = journal(rt.alloc(), case)?;
-    for n in &NUMBERS {
-        compare_number(rt, case, &journal, *n);
-    }
-    for i in 0..journal.len() {
-        let before = match operation(case, i as usize) {
-            Some(req) => newest(case, i as usize, req),
-            None => None,
-        };
-        assert_eq!(rt; journal.earlier(i), before);
-    }
+    assert!(rt; agrees(case, &journal));
     Ok(())
 }
+
+/// A fencer's own.
+static LAWFUL: [Said; 12] = [
+    Said::Device(0, 1),
+    Said::Device(1, 2),
+    Said::Device(2, 1),
+    Said::Ask(0),
+    Said::Start(0, 0),
+    Said::Pass,
+    Said::Ask(1),
+    Said::Start(1, 1),
+    Said::Exit(0),
+    Said::Start(2, 0),
+    Said::Reply(0),
+    Said::Exit(1),
+];
+
+/// Numbers doubled and out of order.
+static DOUBLED: [Said; 13] = [
+    Said::Ask(3),
+    Said::Ask(3),
+    Said::Reply(3),
+    Said::Reply(3),
+    Said::Start(1, 3),
+    Said::Start(1, 4),
+    Said::Exit(1),
+    Said::Exit(1),
+    Said::Device(3, 1),
+    Said::Device(3, 2),
+    Said::Device(2, 2),
+    Said::Device(1, 1),
+    Said::Device(4, 1),
+];
+
+/// Exits before their starts, and without.
+static MISSING: [Said; 6] = [
+    Said::Exit(0),
+    Said::Exit(7),
+    Said::Start(0, 2),
+    Said::Exit(0),
+    Said::Reply(1),
+    Said::Start(2, 2),
+];
+
+/// Numbers at the limit of the journal and past it.
+static LARGE: [Said; 16] = [
+    Said::Device(HUGE, 1),
+    Said::Device(20_000, 1),
+    Said::Device(16_384, 2),
+    Said::Device(16_383, 2),
+    Said::Ask(HUGE),
+    Said::Ask(16_384),
+    Said::Ask(16_383),
+    Said::Start(HUGE, HUGE),
+    Said::Start(16_384, 16_383),
+    Said::Start(HUGE, 1),
+    Said::Exit(HUGE),
+    Said::Exit(16_384),
+    Said::Reply(HUGE),
+    Said::Reply(HUGE),
+    Said::Start(16_383, 16_384),
+    Said::Exit(HUGE),
+];
 
 #[test]
 fn index_beside_searches(rt: HostRuntime) -> Result<(), Fail> {
     compare(&rt, &[])?;
-
-    // A fencer's own.
-    compare(
-        &rt,
-        &[
-            Said::Device(0, 1),
-            Said::Device(1, 2),
-            Said::Device(2, 1),
-            Said::Ask(0),
-            Said::Start(0, 0),
-            Said::Pass,
-            Said::Ask(1),
-            Said::Start(1, 1),
-            Said::Exit(0),
-            Said::Start(2, 0),
-            Said::Reply(0),
-            Said::Exit(1),
-        ],
-    )?;
-
-    // Numbers doubled and out of order.
-    compare(
-        &rt,
-        &[
-            Said::Ask(3),
-            Said::Ask(3),
-            Said::Reply(3),
-            Said::Reply(3),
-            Said::Start(1, 3),
-            Said::Start(1, 4),
-            Said::Exit(1),
-            Said::Exit(1),
-            Said::Device(3, 1),
-            Said::Device(3, 2),
-            Said::Device(2, 2),
-            Said::Device(1, 1),
-            Said::Device(4, 1),
-        ],
-    )?;
-
-    // What is missing: exits before their starts, and without.
-    compare(
-        &rt,
-        &[
-            Said::Exit(0),
-            Said::Exit(7),
-            Said::Start(0, 2),
-            Said::Exit(0),
-            Said::Reply(1),
-            Said::Start(2, 2),
-        ],
-    )?;
-
-    // Numbers at the limit of the journal and past it.
-    compare(
-        &rt,
-        &[
-            Said::Device(HUGE, 1),
-            Said::Device(20_000, 1),
-            Said::Device(16_384, 2),
-            Said::Device(16_383, 2),
-            Said::Ask(HUGE),
-            Said::Ask(16_384),
-            Said::Ask(16_383),
-            Said::Start(HUGE, HUGE),
-            Said::Start(16_384, 16_383),
-            Said::Start(HUGE, 1),
-            Said::Exit(HUGE),
-            Said::Exit(16_384),
-            Said::Reply(HUGE),
-            Said::Reply(HUGE),
-            Said::Start(16_383, 16_384),
-            Said::Exit(HUGE),
-        ],
-    )?;
-    Ok(())
+    compare(&rt, &LAWFUL)?;
+    compare(&rt, &DOUBLED)?;
+    compare(&rt, &MISSING)?;
+    compare(&rt, &LARGE)
 }
 
 #[test]

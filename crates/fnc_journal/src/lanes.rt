@@ -1,79 +1,77 @@
-// Which entries set the lanes of a journal.
+// The lane of each registration, by number.
 
-ghost use Rattle.std.specs.Prelude.{ℕ, ◌≡◌, ◌<◌, ◌∷◌, [], length, reverse, IfOk, true};
-ghost use Rattle.fnc_journal.specs.declared.entry.Entry.{Entry};
+ghost use Rattle.std.specs.Prelude.{
+  ℕ,
+  ◌≡◌,
+  ◌<◌,
+  ◌≤◌,
+  ◌+◌,
+  ◌==◌,
+  ◌&&◌,
+  ◌∷◌,
+  [],
+  length,
+  Some,
+  None,
+  IfOk,
+  if◌then◌else◌,
+};
 ghost use Rattle.fnc_journal.specs.History.{History};
-ghost use Rattle.fnc_journal.specs.Heads as Heads;
-ghost use Rattle.fnc_journal.specs.Index.{AreHeads};
+ghost use Rattle.fnc_journal.specs.Heads.{least_here, stays};
+ghost use Rattle.fnc_journal.specs.Missing.{or_here, least_of};
+ghost use Rattle.fnc_journal.specs.Table.{under};
+ghost use Rattle.fnc_journal.specs.Index.{AreLanes};
 
+use crate::cells::Cells;
 use crate::event::Event;
 use crate::outcome::NoMemory;
 use std::alloc::Global;
-use std::marker::Model;
 
-/// The entries that each gave a name a lesser registration than it had: in the journal of a fencer the
-/// first of each name. Contracts see the newest first.
+/// The lanes of the registrations, as each was made. They are `settled` while no later registration of
+/// the same name had a lesser number, as none of a fencer has.
 #[derive(Debug, Drop)]
 pub(crate) struct Lanes {
-    heads: Vec<u32>,
-    room: u32,
-}
-
-impl Model for Lanes {
-    ghost use Rattle.std.specs.Prelude.{reverse, vec_capacity, ◌≤◌};
-    ghost use Rattle.fnc_journal.specs.Heads.{Heads};
-
-    ghost Value = { Heads };
-
-    ghost view = { λ l. record { entries = reverse l.heads.items; room = l.room } };
-
-    ghost invariant = { λ l. l.room ≤ vec_capacity l.heads };
+    pub by_number: Cells,
+    pub settled: bool,
 }
 
 impl Lanes {
     /// Those of an empty journal, with room for one of some length.
     pub fn with_room(alloc: Global, room: u32) -> Result<Lanes, NoMemory>
-        ensures { IfOk result (λ l. AreHeads room [] l) }
+        ensures { IfOk result (λ x. AreLanes room [] x) }
     {
-        let heads = Vec::with_capacity(alloc, room as usize)?;
-        Ok(Lanes { heads, room })
+        let by_number = Cells::with_room(alloc, room)?;
+        Ok(Lanes {
+            by_number,
+            settled: true,
+        })
     }
 
-    /// Their indices, the oldest first.
-    pub fn as_slice(&self) -> &[u32]
-        ensures { reverse result.now ≡ self.now.entries }
+    /// An event comes, with the least registration so far of the name that it registers.
+    pub fn enter(&mut self, event: &Event, least: Option<u32>)
+        ensures { (room moment : ℕ) (h : History) → length h < room → least ≡ least_here h event.now →
+            AreLanes room h self.old → AreLanes room (record { moment = moment; event = event.now } ∷ h) self.new }
     {
-        &self.heads
-    }
-
-    /// An entry comes, which lowers the lane of a name or does not.
-    pub fn enter(&mut self, lowers: bool, at: u32)
-        ensures { (room : ℕ) (e : Entry) (h : History) → length h ≡ at → at < room → lowers ≡ Heads.lowers h e.event →
-            AreHeads room h self.old → AreHeads room (e ∷ h) self.new }
-    {
-        if lowers {
-            self.add(at);
+        if let Event::Device(device) = event {
+            self.settle(device.reg.0, least);
         }
     }
 
-    /// One more, the newest. There is room for as many as entries.
-    fn add(&mut self, at: u32)
-        ensures entries { length self.old.entries < self.old.room → self.new.entries ≡ at ∷ self.old.entries }
-        ensures room { self.new.room ≡ self.old.room }
+    /// A registration is made of a name whose least one so far is known.
+    fn settle(&mut self, reg: u32, least: Option<u32>)
+        ensures lanes { length self.old.by_number.strays < self.old.by_number.room →
+            (n : ℕ) → under n self.new.by_number
+            ≡ or_here (under n self.old.by_number) (if n == reg then least_of (Some reg) least else None) }
+        ensures strays { length self.new.by_number.strays ≤ length self.old.by_number.strays + 1 }
+        ensures room { self.new.by_number.room ≡ self.old.by_number.room }
+        ensures settled { self.new.settled ≡ (self.old.settled && stays reg least) }
     {
-        let _ = self.heads.push(at);
-    }
-}
-
-/// Whether an event gives a name a lesser registration than the least so far.
-pub(crate) fn lowers(event: &Event, least: Option<u32>) -> bool
-    ensures { result ≡ Heads.lowers_below least event.now }
-{
-    match event {
-        Event::Device(device) => match least {
-            Some(number) => device.reg.0 < number,
-            None => true,
-        },
-        _ => false,
+        match least {
+            Some(number) => {
+                self.by_number.put_first(reg, reg.min(number));
+                self.settled = self.settled && number <= reg;
+            }
+            None => self.by_number.put_first(reg, reg),
+        }
     }
 }

@@ -10,7 +10,7 @@ mod definition;
 mod entry;
 mod event;
 mod firsts;
-mod homes;
+mod heads;
 mod index;
 #[cfg(test)]
 mod index_tests;

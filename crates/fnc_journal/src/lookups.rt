@@ -69,7 +69,7 @@ impl Journal {
     fn least_registration(&self, name: &str) -> Option<u32>
         ensures { result ≡ Registered.least_registration name.now self.now.history }
     {
-        match newest_head(self, self.index().lanes.as_slice(), name) {
+        match newest_head(self, self.index().heads.as_slice(), name) {
             Some(index) => self.named_at(name, *index),
             None => None,
         }
@@ -89,9 +89,9 @@ impl Journal {
     pub fn lane(&self, reg: Reg) -> Reg
         ensures { result.0 ≡ Registered.lane reg.0 self.now.history }
     {
-        let homes = &self.index().homes;
-        if homes.settled {
-            Reg(homes.lanes.get(reg.0).unwrap_or(reg.0))
+        let lanes = &self.index().lanes;
+        if lanes.settled {
+            Reg(lanes.by_number.get(reg.0).unwrap_or(reg.0))
         } else {
             self.lane_by_name(reg)
         }
@@ -146,7 +146,8 @@ impl Journal {
 
 /// The newest of these entries that gives a name a registration.
 fn newest_head<'a>(journal: &Journal, heads: &'a [u32], name: &str) -> Option<&'a u32>
-    ensures { option_copied result ≡ find (λ i. is_some (Heads.named_at name.now journal.now.history i)) (reverse heads.now) }
+    ensures { option_copied result
+        ≡ find (λ i. is_some (Heads.named_at name.now journal.now.history i)) (reverse heads.now) }
 {
     heads
         .iter()

@@ -12,5 +12,6 @@ returns c =
     let there = c.entry_of.ensures ∙ ap (option_and_then (λ i. entry_at i h)) c.ask_at.ensures in
     record {
       entry = there;
-      asked = asked-at c.args.req.0 h ∙ ap (option_and_then (λ (e : Entry). asked_here c.args.req.0 e.moment [] e.event)) (sym there);
+      asked = asked-at c.args.req.0 h
+          ∙ ap (option_and_then (λ (e : Entry). asked_here c.args.req.0 e.moment [] e.event)) (sym there);
     }

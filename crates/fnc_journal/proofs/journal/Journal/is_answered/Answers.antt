@@ -5,4 +5,5 @@ use Rattle.fnc_journal.proofs.Finds.{is_some-first_at}
 use Rattle.fnc_journal.proofs.journal.Journal.is_answered.Goals as goal
 
 pub returns : goal.returns
-returns c = c.is_some.ensures ∙ ap is_some c.reply_at.ensures ∙ is_some-first_at (is_reply_to c.args.req.0) c.args.self.now.history
+returns c = c.is_some.ensures ∙ ap is_some c.reply_at.ensures
+    ∙ is_some-first_at (is_reply_to c.args.req.0) c.args.self.now.history

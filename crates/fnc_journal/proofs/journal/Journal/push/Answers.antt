@@ -1,5 +1,5 @@
 -- The index sees the entry, and its room stays below the limit.
-use Rattle.std.proofs.Common.{◌≡◌, ◌∙◌, ◌<◌, ◌≤◌, ◌∷◌, [], sym, ap, subst, arith, length, reverse, vec_len, vec_capacity}
+use Rattle.std.proofs.Common.{◌≡◌, ◌∙◌, ◌<◌, ◌∷◌, [], sym, ap, subst, arith, length, reverse}
 use Rattle.std.proofs.lemmas.List.{reverse-append, length-reverse}
 use Rattle.fnc_journal.specs.History.{History, Journaled}
 use Rattle.fnc_journal.specs.Links.{operation_here}

@@ -1,14 +1,19 @@
--- The new entry is the newest of those that lowered the lane of a name, or it lowers none.
-use Rattle.std.proofs.Common.{◌∙◌, ◌∷◌, sym, ap, arith}
-use Rattle.fnc_journal.proofs.Heads.{heads-lowered, heads-kept}
+-- A registration settles its own lane; any other event settles none.
+use Rattle.std.proofs.Common.{◌∷◌, ◌∙◌, sym, ap, subst}
+use Rattle.fnc_journal.specs.declared.event.Event.{Event}
+use Rattle.fnc_journal.specs.Heads.{least_here}
+use Rattle.fnc_journal.specs.Index.{AreLanes}
+use Rattle.fnc_journal.proofs.SettledLanes.{lanes-device, lanes-other}
 use Rattle.fnc_journal.proofs.lanes.Lanes.enter.Goals as goal
 
-pub returns-then-lowers : goal.returns-then-lowers
-returns-then-lowers c = λ limit e h l b p a.
-    let few = a.few in
-    let room = a.room in
-    heads-lowered limit e h c.args.self.now c.add.new.self (sym p ∙ c.if-lowers.true) a
-    (c.add.ensures.entries (omega arith) ∙ ap (λ k. k ∷ c.args.self.now.entries) (sym l)) c.add.ensures.room
+pub returns-in-Device : goal.returns-in-Device
+returns-in-Device c = λ limit moment h l p a.
+    subst (λ (event : Event). AreLanes limit (record { moment = moment; event = event } ∷ h) c.settle.new.self)
+    (sym c.in-Device.is)
+    (lanes-device limit moment h c.in-Device.device c.args.self.now c.settle.new.self c.args.least (p
+    ∙ ap (least_here h) c.in-Device.is) l a
+    c.settle.ensures.lanes c.settle.ensures.strays c.settle.ensures.room c.settle.ensures.settled)
 
-pub returns-else-lowers : goal.returns-else-lowers
-returns-else-lowers c = λ limit e h l b p a. heads-kept limit e h c.args.self.now (sym p ∙ c.if-lowers.false) a
+pub returns-in_default : goal.returns-in_default
+returns-in_default c = λ limit moment h l p a. lanes-other limit moment h c.args.event.now c.args.self.now
+    c.in_default.not-Device a
