@@ -18,3 +18,4 @@ pub mod Prefixes
 pub mod LawfulSteps
 pub mod DrivenSteps
 pub mod Faults
+pub mod Separators
