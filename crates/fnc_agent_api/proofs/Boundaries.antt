@@ -17,7 +17,8 @@ leading_boundary bs zero u e = IsCharBoundary-start bs u
 leading_boundary bs (suc k) u e =
     let inside : k < length bs = omega (arith, prefix_len-le-length is_blank bs) in
     let blank = prefix_len_passes is_blank bs k 0 (omega arith) in
-    subst (λ i. IsCharBoundary bs i) (omega arith) (IsCharBoundary-after_ascii bs k u inside (blank_is_ascii (get_or bs k 0) blank))
+    subst (λ i. IsCharBoundary bs i) (omega arith)
+    (IsCharBoundary-after_ascii bs k u inside (blank_is_ascii (get_or bs k 0) blank))
 
 pub trailing_boundary : (bs : List ℕ) (n : ℕ) → n ≡ suffix_len is_blank bs → IsCharBoundary bs (length bs - n)
 trailing_boundary bs zero e = subst (λ i. IsCharBoundary bs i) (omega arith) (IsCharBoundary-end bs)
@@ -26,4 +27,5 @@ trailing_boundary bs (suc k) e =
     let blank = prefix_len_passes is_blank (reverse bs) k 0 (omega arith) in
     let same : length bs - 1 - k ≡ length bs - suc k = omega arith in
     let there = rw (get_or-reverse bs k 0 (omega arith), same) at blank in
-    IsCharBoundary-before_ascii bs (length bs - suc k) (omega arith) (blank_is_ascii (get_or bs (length bs - suc k) 0) there)
+    IsCharBoundary-before_ascii bs (length bs - suc k) (omega arith)
+    (blank_is_ascii (get_or bs (length bs - suc k) 0) there)

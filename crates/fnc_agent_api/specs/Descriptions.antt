@@ -71,7 +71,8 @@ parameter (Some name) None = None
 parameter (Some name) (Some required) = Some (record { name = name; required = required })
 
 abbrev pub parameter_of : Data → Option Parameter
-parameter_of d = parameter (parameter_name (option_and_then as_str (get (codes "name") d))) (required_of (get (codes "required") d))
+parameter_of d = parameter (parameter_name (option_and_then as_str (get (codes "name") d)))
+    (required_of (get (codes "required") d))
 
 -- the parameters of an array, where each item is one
 abbrev pub with_parameter : Option Parameter → Option (List Parameter) → Option (List Parameter)
@@ -102,17 +103,20 @@ target_of None = Some None
 target_of (Some d) = a_target (parameter_name (as_str d))
 
 -- the description that the fields make, or the fault of the first bad one; `off` must be among the actions
-abbrev pub description : Option Actions → Option (List Parameter) → Option (Option (List ℕ)) → Result Description DescribeFault
+abbrev pub description : Option Actions → Option (List Parameter) → Option (Option (List ℕ))
+    → Result Description DescribeFault
 description None parameters target = Err (DescribeFault.BadField Field.Actions)
 description (Some actions) None target = Err (DescribeFault.BadField Field.Parameters)
 description (Some actions) (Some parameters) None = Err (DescribeFault.BadField Field.TargetParameter)
 description (Some actions) (Some parameters) (Some target) =
-    if actions.off then Ok (record { actions = actions; parameters = parameters; target = target }) else Err DescribeFault.NoOff
+    if actions.off then Ok (record { actions = actions; parameters = parameters; target = target })
+    else Err DescribeFault.NoOff
 
 -- what a JSON value describes: other fields are left unused
 abbrev pub description_of : Data → Result Description DescribeFault
 description_of d = if is_some (as_object d)
-    then description (actions_of (get (codes "actions") d)) (parameters_of (get (codes "parameters") d)) (target_of (get (codes "target_parameter") d))
+    then description (actions_of (get (codes "actions") d)) (parameters_of (get (codes "parameters") d))
+    (target_of (get (codes "target_parameter") d))
     else Err DescribeFault.NotObject
 
 -- the JSON value that the bytes are
@@ -129,7 +133,12 @@ described bytes = described_by (json_of bytes)
 
 -- the description of an agent of which nothing was told
 abbrev pub plain : Description
-plain = record { actions = record { on = true; off = true; reboot = true; list = false; status = false }; parameters = []; target = None }
+plain = record {
+  actions = record { on = true; off = true; reboot = true; list = false; status = false };
+  parameters =
+      [];
+  target = None;
+}
 
 -- a fault is the one that was to be found, unless memory ran out
 abbrev pub Fails : {A : Type 0} → DescribeFault → Result A DescribeFault → Type 0

@@ -42,7 +42,8 @@ after_pairs front (Ok ps) = Ok (front ++ ps)
 after_pairs front (Err fault) = Err fault
 
 -- a fault of an earlier line comes first
-abbrev pub then_pairs : Result (Option Pair) OptionFault → Result (List Pair) OptionFault → Result (List Pair) OptionFault
+abbrev pub then_pairs : Result (Option Pair) OptionFault → Result (List Pair) OptionFault
+    → Result (List Pair) OptionFault
 then_pairs (Ok p) rest = with_pair p rest
 then_pairs (Err fault) rest = Err fault
 
@@ -72,4 +73,5 @@ Gives (Err fault) said = Fails fault said
 
 -- the pairs gained what a line says
 abbrev pub Adds : List Pair → List Pair → Result (Option Pair) OptionFault → Type 0
-Adds old new said = (rest : Result (List Pair) OptionFault) → after_pairs new rest ≡ after_pairs old (then_pairs said rest)
+Adds old new said = (rest : Result (List Pair) OptionFault) → after_pairs new rest
+    ≡ after_pairs old (then_pairs said rest)

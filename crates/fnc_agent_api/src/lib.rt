@@ -16,6 +16,3 @@ pub use list_output::lists;
 pub use meaning::{Meaning, exit_meaning};
 pub use option_lines::options_text;
 pub use options::{OptionFault, Options, read_options};
-
-#[cfg(test)]
-mod tests;

@@ -20,36 +20,45 @@ use Rattle.fnc_command.specs.Proper.{IsAskable, IsProperTarget}
 use Rattle.fnc_command.proofs.Readings.{each, any, of_one}
 
 -- what passed a test passes it
-pub passed : {X : Type 0} (Q : X → Type 0) (cause : Cause) (passes : Bool) (x : X) → (passes ≡ true → Q x) → IfOk (passing cause passes x) Q
+pub passed : {X : Type 0} (Q : X → Type 0) (cause : Cause) (passes : Bool) (x : X) → (passes ≡ true → Q x)
+    → IfOk (passing cause passes x) Q
 passed Q cause true x h = h refl
 passed Q cause false x h = tt
 
 pub name : (word : List ℕ) → IfOk (name_of word) (λ t. IsTrue (is_name t))
 name word =
-    each (λ t. Unit {0}) (λ t. IsTrue (is_name t)) (text_of word) (λ t. passing Cause.BadName (is_name t) t) (any (text_of word))
+    each (λ t. Unit {0}) (λ t. IsTrue (is_name t)) (text_of word) (λ t. passing Cause.BadName (is_name t) t)
+    (any (text_of word))
     (λ t u. passed (λ t. IsTrue (is_name t)) Cause.BadName (is_name t) t (λ e. e))
 
 pub agent : (word : List ℕ) → IfOk (agent_of word) (λ t. IsTrue (is_agent_name t))
 agent word =
-    each (λ t. Unit {0}) (λ t. IsTrue (is_agent_name t)) (text_of word) (λ t. passing Cause.BadName (is_agent_name t) t) (any (text_of word))
+    each (λ t. Unit {0}) (λ t. IsTrue (is_agent_name t)) (text_of word) (λ t.
+    passing Cause.BadName (is_agent_name t) t) (any (text_of word))
     (λ t u. passed (λ t. IsTrue (is_agent_name t)) Cause.BadName (is_agent_name t) t (λ e. e))
 
 pattern : (rest : List ℕ) → IfOk (pattern_of rest) IsProperTarget
 pattern rest =
-    each (λ t. Unit {0}) IsProperTarget (text_of rest) (λ t. passing Cause.BadName (is_pattern t) (LevelTarget.Pattern t)) (any (text_of rest))
+    each (λ t. Unit {0}) IsProperTarget (text_of rest) (λ t.
+    passing Cause.BadName (is_pattern t) (LevelTarget.Pattern t)) (any (text_of rest))
     (λ t u. passed IsProperTarget Cause.BadName (is_pattern t) (LevelTarget.Pattern t) (λ e. e))
 
 pub target : (word : List ℕ) → IfOk (target_of word) IsProperTarget
 target word = go (is_marked word)
   where
-    go : (marked : Bool) → IfOk (cond marked (pattern_of (drop 1 word)) (and_then (name_of word) (λ n. Ok (LevelTarget.Name n)))) IsProperTarget
+    go : (marked : Bool)
+        → IfOk (cond marked (pattern_of (drop 1 word)) (and_then (name_of word) (λ n. Ok (LevelTarget.Name n))))
+        IsProperTarget
     go true = pattern (drop 1 word)
-    go false = of_one (λ t. IsTrue (is_name t)) IsProperTarget (name_of word) LevelTarget.Name (name word) (λ t named. named)
+    go false = of_one (λ t. IsTrue (is_name t)) IsProperTarget (name_of word) LevelTarget.Name (name word)
+        (λ t named. named)
 
 pub devices : (word : List ℕ) → IfOk (devices_of word) (λ names. IsTrue (list_all is_name names))
 devices word =
-    each (λ t. Unit {0}) (λ names. IsTrue (list_all is_name names)) (text_of word) (λ t. all_names (comma_parts t)) (any (text_of word))
-    (λ t u. passed (λ names. IsTrue (list_all is_name names)) Cause.BadName (list_all is_name (comma_parts t)) (comma_parts t) (λ e. e))
+    each (λ t. Unit {0}) (λ names. IsTrue (list_all is_name names)) (text_of word) (λ t. all_names (comma_parts t))
+    (any (text_of word))
+    (λ t u. passed (λ names. IsTrue (list_all is_name names)) Cause.BadName (list_all is_name (comma_parts t))
+    (comma_parts t) (λ e. e))
 
 -- a value that is there
 pub there : {X : Type 0} (Q : X → Type 0) (o : Option X) (cause : Cause) → IfSome o Q → IfOk (ok_or o cause) Q
@@ -72,10 +81,12 @@ number-bound most bytes = go (is_number bytes)
 
 pub number_within : (most : ℕ) (word : List ℕ) → IfOk (number_of most word) (λ n. n ≤ most)
 number_within most word =
-    each (λ bytes. Unit {0}) (λ n. n ≤ most) (bytes_of word) (λ bytes. ok_or (number most bytes) Cause.BadNumber) (any (bytes_of word))
+    each (λ bytes. Unit {0}) (λ n. n ≤ most) (bytes_of word) (λ bytes. ok_or (number most bytes) Cause.BadNumber)
+    (any (bytes_of word))
     (λ bytes u. there (λ n. n ≤ most) (number most bytes) Cause.BadNumber (number-bound most bytes))
 
-askable : (on off reboot : Bool) → IfSome (cond on (Some Kind.On) (cond off (Some Kind.Off) (cond reboot (Some Kind.Reboot) None))) IsAskable
+askable : (on off reboot : Bool)
+    → IfSome (cond on (Some Kind.On) (cond off (Some Kind.Off) (cond reboot (Some Kind.Reboot) None))) IsAskable
 askable true off reboot = tt
 askable false true reboot = tt
 askable false false true = tt
@@ -83,8 +94,11 @@ askable false false false = tt
 
 pub kind : (word : List ℕ) → IfOk (action_of word) IsAskable
 kind word =
-    each (λ bytes. Unit {0}) IsAskable (bytes_of word) (λ bytes. ok_or (action bytes) Cause.BadAction) (any (bytes_of word))
-    (λ bytes u. there IsAskable (action bytes) Cause.BadAction (askable (bytes_eq bytes (codes "on")) (bytes_eq bytes (codes "off")) (bytes_eq bytes (codes "reboot"))))
+    each (λ bytes. Unit {0}) IsAskable (bytes_of word) (λ bytes. ok_or (action bytes) Cause.BadAction)
+    (any (bytes_of word))
+    (λ bytes u.
+    there IsAskable (action bytes) Cause.BadAction
+    (askable (bytes_eq bytes (codes "on")) (bytes_eq bytes (codes "off")) (bytes_eq bytes (codes "reboot"))))
 
 -- a duration is at most a day
 within_a_day-bound : (ms : ℕ) → IfOk (within_a_day ms) (λ n. n ≤ DAY)
@@ -102,7 +116,10 @@ duration-bound : (text : List ℕ) → IfOk (duration text) (λ n. n ≤ DAY)
 duration-bound [] = tt
 duration-bound (b ∷ bs) = go (is_ascii_digit b)
   where
-    go : (digit : Bool) → IfOk (cond digit (counted (digits_value (take_while is_ascii_digit (b ∷ bs))) (unit (after_digits (b ∷ bs)))) (Err DurationFault.NoDigits)) (λ n. n ≤ DAY)
+    go : (digit : Bool)
+        → IfOk
+        (cond digit (counted (digits_value (take_while is_ascii_digit (b ∷ bs))) (unit (after_digits (b ∷ bs))))
+        (Err DurationFault.NoDigits)) (λ n. n ≤ DAY)
     go true = counted-bound (digits_value (take_while is_ascii_digit (b ∷ bs))) (unit (after_digits (b ∷ bs)))
     go false = tt
 

@@ -57,23 +57,30 @@ abbrev IsProperOptions : Mode → AskOptions → Type 0
 IsProperOptions mode o = IfSome o.total IsTotal × IsProperCoin mode o.coin
 
 module _ (mode : Mode) where
-  with_total : (before : AskOptions) (value : List ℕ) → IsProperOptions mode before → IfOk (with_option before value (Some OptionName.Total)) (IsProperOptions mode)
+  with_total : (before : AskOptions) (value : List ℕ) → IsProperOptions mode before
+      → IfOk (with_option before value (Some OptionName.Total)) (IsProperOptions mode)
   with_total before value h =
-      each IsTotal (IsProperOptions mode) (ok_or (at_least_one (duration value)) Cause.BadTotal) (λ ms. passing Cause.BadWord (is_none before.total) (record before { total = Some ms }))
+      each IsTotal (IsProperOptions mode) (ok_or (at_least_one (duration value)) Cause.BadTotal) (λ ms.
+      passing Cause.BadWord (is_none before.total) (record before { total = Some ms }))
       (there IsTotal (at_least_one (duration value)) Cause.BadTotal (total value))
-      (λ ms t. passed (IsProperOptions mode) Cause.BadWord (is_none before.total) (record before { total = Some ms }) (λ e. (t, h.1)))
+      (λ ms t. passed (IsProperOptions mode) Cause.BadWord (is_none before.total) (record before { total = Some ms })
+      (λ e. (t, h.1)))
 
-  with_coin : IsTimed mode → (before : AskOptions) (value : List ℕ) → IsProperOptions mode before → IfOk (with_option before value (Some OptionName.Coin)) (IsProperOptions mode)
+  with_coin : IsTimed mode → (before : AskOptions) (value : List ℕ) → IsProperOptions mode before
+      → IfOk (with_option before value (Some OptionName.Coin)) (IsProperOptions mode)
   with_coin timed before value h =
-      each Anything (IsProperOptions mode) (ok_or (number 18446744073709551615 value) Cause.BadNumber) (λ n. passing Cause.BadWord (is_none before.coin) (record before { coin = Some n }))
+      each Anything (IsProperOptions mode) (ok_or (number 18446744073709551615 value) Cause.BadNumber) (λ n.
+      passing Cause.BadWord (is_none before.coin) (record before { coin = Some n }))
       (any (ok_or (number 18446744073709551615 value) Cause.BadNumber))
-      (λ n t. passed (IsProperOptions mode) Cause.BadWord (is_none before.coin) (record before { coin = Some n }) (λ e. (h.0, timed)))
+      (λ n t. passed (IsProperOptions mode) Cause.BadWord (is_none before.coin) (record before { coin = Some n })
+      (λ e. (h.0, timed)))
 
   abbrev IsOption : Option OptionName → Type 0
   IsOption (Some OptionName.Coin) = IsTimed mode
   IsOption _ = Unit {0}
 
-  option-proper : (before : AskOptions) (value : List ℕ) (name : Option OptionName) → IsOption name → IsProperOptions mode before → IfOk (with_option before value name) (IsProperOptions mode)
+  option-proper : (before : AskOptions) (value : List ℕ) (name : Option OptionName) → IsOption name
+      → IsProperOptions mode before → IfOk (with_option before value name) (IsProperOptions mode)
   option-proper before value None o h = tt
   option-proper before value (Some OptionName.Total) o h = with_total before value h
   option-proper before value (Some OptionName.Coin) o h = with_coin o before value h
@@ -93,18 +100,24 @@ option_name-timed mode name = go (bytes_eq name (codes "total"))
     go true = tt
     go false = coin-timed mode name
 
-cut-proper : (mode : Mode) (before : AskOptions) (word : List ℕ) (cut : Option (List ℕ × List ℕ)) → IsProperOptions mode before → IfOk (with_cut mode before word cut) (IsProperOptions mode)
+cut-proper : (mode : Mode) (before : AskOptions) (word : List ℕ) (cut : Option (List ℕ × List ℕ))
+    → IsProperOptions mode before → IfOk (with_cut mode before word cut) (IsProperOptions mode)
 cut-proper mode before word None h =
-    each Anything (IsProperOptions mode) (bytes_of word) (λ bytes. Err Cause.BadWord) (any (bytes_of word)) (λ bytes u. tt)
+    each Anything (IsProperOptions mode) (bytes_of word) (λ bytes. Err Cause.BadWord) (any (bytes_of word))
+    (λ bytes u. tt)
 cut-proper mode before word (Some cut) h =
-    each Anything (IsProperOptions mode) (bytes_of cut.0) (λ name. and_then (bytes_of cut.1) (λ value. with_option before value (option_name mode name))) (any (bytes_of cut.0))
-    (λ name u. each Anything (IsProperOptions mode) (bytes_of cut.1) (λ value. with_option before value (option_name mode name)) (any (bytes_of cut.1))
+    each Anything (IsProperOptions mode) (bytes_of cut.0) (λ name.
+    and_then (bytes_of cut.1) (λ value. with_option before value (option_name mode name))) (any (bytes_of cut.0))
+    (λ name u. each Anything (IsProperOptions mode) (bytes_of cut.1) (λ value.
+    with_option before value (option_name mode name)) (any (bytes_of cut.1))
     (λ value v. option-proper mode before value (option_name mode name) (option_name-timed mode name) h))
 
-options-proper : (mode : Mode) (before : AskOptions) (ws : List (List ℕ)) → IsProperOptions mode before → IfOk (with_words mode before ws) (IsProperOptions mode)
+options-proper : (mode : Mode) (before : AskOptions) (ws : List (List ℕ)) → IsProperOptions mode before
+    → IfOk (with_words mode before ws) (IsProperOptions mode)
 options-proper mode before [] h = h
 options-proper mode before (word ∷ ws) h =
-    each (IsProperOptions mode) (IsProperOptions mode) (with_cut mode before word (cut_option word)) (λ next. with_words mode next ws) (cut-proper mode before word (cut_option word) h)
+    each (IsProperOptions mode) (IsProperOptions mode) (with_cut mode before word (cut_option word)) (λ next.
+    with_words mode next ws) (cut-proper mode before word (cut_option word) h)
     (λ next p. options-proper mode next ws p)
 
 total-proper : (t : Option ℕ) → IfSome t IsTotal → IsTotal (unwrap_or t DEFAULT_TOTAL)
@@ -113,32 +126,39 @@ total-proper (Some ms) h = h
 
 optional : (word : Option (List ℕ)) → IfOk (optional_agent word) (λ o. IfSome o (λ a. IsTrue (is_agent_name a)))
 optional None = tt
-optional (Some word) = of_one (λ a. IsTrue (is_agent_name a)) (λ o. IfSome o (λ a. IsTrue (is_agent_name a))) (agent_of word) Some (agent word) (λ a h. h)
+optional (Some word) = of_one (λ a. IsTrue (is_agent_name a)) (λ o. IfSome o (λ a. IsTrue (is_agent_name a)))
+    (agent_of word) Some (agent word) (λ a h. h)
 
 module _ (mode : Mode) where
   device : (ws : List (List ℕ)) → IfOk (said_device ws) (IsSaid mode Verb.Device)
   device [] = tt
   device (word ∷ ws) =
-      of_three IsNamed (λ o. IfSome o (λ a. IsTrue (is_agent_name a))) Anything (IsSaid mode Verb.Device) (name_of word) (optional_agent (agent_word ws)) (pairs_of (option_words ws)) Command.Device
+      of_three IsNamed (λ o. IfSome o (λ a. IsTrue (is_agent_name a))) Anything (IsSaid mode Verb.Device)
+      (name_of word) (optional_agent (agent_word ws)) (pairs_of (option_words ws)) Command.Device
       (name word) (optional (agent_word ws)) (any (pairs_of (option_words ws)))
       (λ n a o named agent u. ((named, agent), refl))
 
   ask : (a : Asking) → IfOk (ask_of mode a) (IsSaid mode Verb.Ask)
   ask a =
       each IsNamed (IsSaid mode Verb.Ask) (name_of a.client) _ (name a.client)
-      (λ client named. of_three IsAskable IsNamed (IsProperOptions mode) (IsSaid mode Verb.Ask) (action_of a.action) (name_of a.target) (with_words mode no_options a.options) (λ k t o. Command.Ask client k t (unwrap_or o.total DEFAULT_TOTAL) o.coin)
+      (λ client named. of_three IsAskable IsNamed (IsProperOptions mode) (IsSaid mode Verb.Ask) (action_of a.action)
+      (name_of a.target) (with_words mode no_options a.options) (λ k t o.
+      Command.Ask client k t (unwrap_or o.total DEFAULT_TOTAL) o.coin)
       (kind a.action) (name a.target) (options-proper mode no_options a.options (tt, tt))
-      (λ k t o askable target options. let within = total-proper o.total options.0 in ((named, askable, target, within.0, within.1, options.1), refl)))
+      (λ k t o askable target options. let within = total-proper o.total options.0 in
+      ((named, askable, target, within.0, within.1, options.1), refl)))
 
   level : (w : List ℕ × List ℕ × List ℕ) → IfOk (level_of w) (IsSaid mode Verb.Level)
   level w =
-      of_three Anything IsProperTarget (λ names. IsTrue (list_all is_name names)) (IsSaid mode Verb.Level) (number_of 18446744073709551615 w.0) (target_of w.1) (devices_of w.2) (λ i t d. Command.Level t i d)
+      of_three Anything IsProperTarget (λ names. IsTrue (list_all is_name names)) (IsSaid mode Verb.Level)
+      (number_of 18446744073709551615 w.0) (target_of w.1) (devices_of w.2) (λ i t d. Command.Level t i d)
       (any (number_of 18446744073709551615 w.0)) (target w.1) (devices w.2)
       (λ i t d u proper named. ((proper, named), refl))
 
   unlevel : (w : List ℕ × List ℕ) → IfOk (unlevel_of w) (IsSaid mode Verb.Unlevel)
   unlevel w =
-      of_two Anything IsProperTarget (IsSaid mode Verb.Unlevel) (number_of 18446744073709551615 w.0) (target_of w.1) (λ i t. Command.Unlevel t i)
+      of_two Anything IsProperTarget (IsSaid mode Verb.Unlevel) (number_of 18446744073709551615 w.0) (target_of w.1)
+      (λ i t. Command.Unlevel t i)
       (any (number_of 18446744073709551615 w.0)) (target w.1)
       (λ i t u proper. (proper, refl))
 
@@ -147,12 +167,14 @@ module _ (mode : Mode) where
 
   agent_described : (w : List ℕ × List ℕ) → IfOk (agent_line w) (IsSaid mode Verb.Agent)
   agent_described w =
-      of_two (λ a. IsTrue (is_agent_name a)) Anything (IsSaid mode Verb.Agent) (agent_of w.0) (bytes_of w.1) Command.Agent (agent w.0) (any (bytes_of w.1))
+      of_two (λ a. IsTrue (is_agent_name a)) Anything (IsSaid mode Verb.Agent) (agent_of w.0) (bytes_of w.1)
+      Command.Agent (agent w.0) (any (bytes_of w.1))
       (λ n json named u. (named, refl))
 
   confirm : (w : List ℕ × List ℕ) → IfOk (confirm_of w) (IsSaid mode Verb.Confirm)
   confirm w =
-      of_two IsNamed IsNamed (IsSaid mode Verb.Confirm) (name_of w.0) (name_of w.1) Command.Confirm (name w.0) (name w.1)
+      of_two IsNamed IsNamed (IsSaid mode Verb.Confirm) (name_of w.0) (name_of w.1) Command.Confirm
+      (name w.0) (name w.1)
       (λ c t client target. ((client, target), refl))
 
 abbrev IsRun : Ended → Type 0
@@ -160,7 +182,8 @@ IsRun e = e.run ≤ 4294967295
 
 run-within : (w : List ℕ × List ℕ × List ℕ) → IfOk (ended_of w) IsRun
 run-within w =
-    of_three (λ n. n ≤ 4294967295) Anything Anything IsRun (number_of 4294967295 w.0) (exit_of w.1) (bytes_of w.2) (λ run exit output. record { run = run; exit = exit; output = output })
+    of_three (λ n. n ≤ 4294967295) Anything Anything IsRun (number_of 4294967295 w.0) (exit_of w.1) (bytes_of w.2)
+    (λ run exit output. record { run = run; exit = exit; output = output })
     (number_within 4294967295 w.0) (any (exit_of w.1)) (any (bytes_of w.2))
     (λ run exit output h u v. h)
 
@@ -171,23 +194,33 @@ exit mode timed ws =
     (λ e h. ((timed, omega arith), refl))
 
 -- what the words after a verb of the mode say is proper, and of this verb
-pub command-said : (mode : Mode) (verb : Verb) (ws : List (List ℕ)) → IsInMode mode verb → IfOk (command mode verb ws) (IsSaid mode verb)
+pub command-said : (mode : Mode) (verb : Verb) (ws : List (List ℕ)) → IsInMode mode verb
+    → IfOk (command mode verb ws) (IsSaid mode verb)
 command-said mode Verb.Device ws m = device mode ws
-command-said mode Verb.Remove ws m = each Anything (IsSaid mode Verb.Remove) (one ws) remove_of (any (one ws)) (λ w u. remove mode w)
-command-said mode Verb.Level ws m = each Anything (IsSaid mode Verb.Level) (three ws) level_of (any (three ws)) (λ w u. level mode w)
-command-said mode Verb.Unlevel ws m = each Anything (IsSaid mode Verb.Unlevel) (two ws) unlevel_of (any (two ws)) (λ w u. unlevel mode w)
-command-said mode Verb.Agent ws m = each Anything (IsSaid mode Verb.Agent) (two ws) agent_line (any (two ws)) (λ w u. agent_described mode w)
-command-said mode Verb.Ask ws m = each Anything (IsSaid mode Verb.Ask) (asking ws) (ask_of mode) (any (asking ws)) (λ a u. ask mode a)
+command-said mode Verb.Remove ws m = each Anything (IsSaid mode Verb.Remove) (one ws) remove_of (any (one ws))
+    (λ w u. remove mode w)
+command-said mode Verb.Level ws m = each Anything (IsSaid mode Verb.Level) (three ws) level_of (any (three ws))
+    (λ w u. level mode w)
+command-said mode Verb.Unlevel ws m = each Anything (IsSaid mode Verb.Unlevel) (two ws) unlevel_of (any (two ws))
+    (λ w u. unlevel mode w)
+command-said mode Verb.Agent ws m = each Anything (IsSaid mode Verb.Agent) (two ws) agent_line (any (two ws)) (λ w u.
+    agent_described mode w)
+command-said mode Verb.Ask ws m = each Anything (IsSaid mode Verb.Ask) (asking ws) (ask_of mode) (any (asking ws))
+    (λ a u. ask mode a)
 command-said mode Verb.Exit ws m = exit mode m ws
-command-said mode Verb.Pass ws m = of_one Anything (IsSaid mode Verb.Pass) (none ws) (λ nothing. Command.Pass) (any (none ws)) (λ nothing u. (m, refl))
-command-said mode Verb.Confirm ws m = each Anything (IsSaid mode Verb.Confirm) (two ws) confirm_of (any (two ws)) (λ w u. confirm mode w)
+command-said mode Verb.Pass ws m = of_one Anything (IsSaid mode Verb.Pass) (none ws) (λ nothing. Command.Pass)
+    (any (none ws)) (λ nothing u. (m, refl))
+command-said mode Verb.Confirm ws m = each Anything (IsSaid mode Verb.Confirm) (two ws) confirm_of (any (two ws))
+    (λ w u. confirm mode w)
 
 -- a command that is not of the verb `exit` is no exit
-no_exit-other : (moment : Option ℕ) (command : Command) → (verb_of_command command ≡ Verb.Exit → ⊥) → exit_at command moment ≡ None
+no_exit-other : (moment : Option ℕ) (command : Command) → (verb_of_command command ≡ Verb.Exit → ⊥)
+    → exit_at command moment ≡ None
 no_exit-other moment (Command.Exit run exit output) n = absurd (n refl)
 no_exit-other moment _ n = refl
 
-pub no_exit : (moment : Option ℕ) (verb : Verb) (ws : List (List ℕ)) → (verb ≡ Verb.Exit → ⊥) → exit_said (said_after Mode.Timed (record { moment = moment; verb = verb; words = ws })) ≡ None
+pub no_exit : (moment : Option ℕ) (verb : Verb) (ws : List (List ℕ)) → (verb ≡ Verb.Exit → ⊥)
+    → exit_said (said_after Mode.Timed (record { moment = moment; verb = verb; words = ws })) ≡ None
 no_exit moment verb ws n = go (command Mode.Timed verb ws) (command-said Mode.Timed verb ws (timed verb))
   where
     timed : (verb : Verb) → IsInMode Mode.Timed verb
@@ -195,6 +228,7 @@ no_exit moment verb ws n = go (command Mode.Timed verb ws) (command-said Mode.Ti
     timed Verb.Pass = tt
     timed _ = tt
 
-    go : (r : Result Command Cause) → IfOk r (IsSaid Mode.Timed verb) → exit_said (and_then r (λ command. Ok (record { moment = moment; command = command }))) ≡ None
+    go : (r : Result Command Cause) → IfOk r (IsSaid Mode.Timed verb)
+        → exit_said (and_then r (λ command. Ok (record { moment = moment; command = command }))) ≡ None
     go (Ok command) h = no_exit-other moment command (subst (λ v. v ≡ Verb.Exit → ⊥) (sym h.1) n)
     go (Err cause) h = refl

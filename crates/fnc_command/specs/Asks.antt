@@ -23,7 +23,8 @@ pub record Asking : Type 0 where
 -- cut so, where they are enough and not too many
 abbrev pub asking : List (List ℕ) → Result Asking Cause
 asking (client ∷ action ∷ target ∷ options) =
-    passing Cause.ExtraWord (nat_le (length options) 2) (record { client = client; action = action; target = target; options = options })
+    passing Cause.ExtraWord (nat_le (length options) 2)
+    (record { client = client; action = action; target = target; options = options })
 asking _ = Err Cause.MissingWord
 
 -- the coin is an option in mode Timed alone
@@ -44,15 +45,18 @@ at_least_one (Err fault) = None
 abbrev pub with_option : AskOptions → List ℕ → Option OptionName → Result AskOptions Cause
 with_option before value None = Err Cause.BadWord
 with_option before value (Some OptionName.Total) =
-    and_then (ok_or (at_least_one (duration value)) Cause.BadTotal) (λ ms. passing Cause.BadWord (is_none before.total) (record before { total = Some ms }))
+    and_then (ok_or (at_least_one (duration value)) Cause.BadTotal) (λ ms.
+    passing Cause.BadWord (is_none before.total) (record before { total = Some ms }))
 with_option before value (Some OptionName.Coin) =
-    and_then (ok_or (number 18446744073709551615 value) Cause.BadNumber) (λ n. passing Cause.BadWord (is_none before.coin) (record before { coin = Some n }))
+    and_then (ok_or (number 18446744073709551615 value) Cause.BadNumber) (λ n.
+    passing Cause.BadWord (is_none before.coin) (record before { coin = Some n }))
 
 -- a word that was cut at its equals sign, beside the options before it
 abbrev pub with_cut : Mode → AskOptions → List ℕ → Option (List ℕ × List ℕ) → Result AskOptions Cause
 with_cut mode before word None = and_then (bytes_of word) (λ bytes. Err Cause.BadWord)
 with_cut mode before word (Some cut) =
-    and_then (bytes_of cut.0) (λ name. and_then (bytes_of cut.1) (λ value. with_option before value (option_name mode name)))
+    and_then (bytes_of cut.0) (λ name. and_then (bytes_of cut.1) (λ value.
+    with_option before value (option_name mode name)))
 
 -- the options of words, beside those before them
 abbrev pub with_words : Mode → AskOptions → List (List ℕ) → Result AskOptions Cause
@@ -67,7 +71,8 @@ no_options = record { total = None; coin = None }
 -- the words of `ask`. A total is 600 s where none is said
 abbrev pub ask_of : Mode → Asking → Result Command Cause
 ask_of mode a =
-    and_then (name_of a.client) (λ client. and_then (action_of a.action) (λ kind. and_then (name_of a.target) (λ target. and_then (with_words mode no_options a.options) (λ o.
+    and_then (name_of a.client) (λ client. and_then (action_of a.action) (λ kind.
+    and_then (name_of a.target) (λ target. and_then (with_words mode no_options a.options) (λ o.
     Ok (Command.Ask client kind target (unwrap_or o.total DEFAULT_TOTAL) o.coin)))))
 
 -- `ask CLIENT ACTION TARGET [total=DURATION] [coin=NUMBER]`, in mode Live without the coin

@@ -44,7 +44,8 @@ devices_of word = and_then (text_of word) (λ t. all_names (comma_parts t))
 -- the words of `level`
 abbrev pub level_of : List ℕ × List ℕ × List ℕ → Result Command Cause
 level_of w =
-    and_then (number_of 18446744073709551615 w.0) (λ index. and_then (target_of w.1) (λ target. and_then (devices_of w.2) (λ devices.
+    and_then (number_of 18446744073709551615 w.0) (λ index.
+    and_then (target_of w.1) (λ target. and_then (devices_of w.2) (λ devices.
     Ok (Command.Level target index devices))))
 
 -- `level INDEX TARGET DEVICES`
@@ -54,7 +55,8 @@ said_level ws = and_then (three ws) level_of
 -- the words of `unlevel`
 abbrev pub unlevel_of : List ℕ × List ℕ → Result Command Cause
 unlevel_of w =
-    and_then (number_of 18446744073709551615 w.0) (λ index. and_then (target_of w.1) (λ target. Ok (Command.Unlevel target index)))
+    and_then (number_of 18446744073709551615 w.0) (λ index.
+    and_then (target_of w.1) (λ target. Ok (Command.Unlevel target index)))
 
 -- `unlevel INDEX TARGET`
 abbrev pub said_unlevel : List (List ℕ) → Result Command Cause

@@ -45,5 +45,6 @@ optional_agent (Some word) = and_then (agent_of word) (λ name. Ok (Some name))
 abbrev pub said_device : List (List ℕ) → Result Command Cause
 said_device [] = Err Cause.MissingWord
 said_device (word ∷ ws) =
-    and_then (name_of word) (λ name. and_then (optional_agent (agent_word ws)) (λ agent. and_then (pairs_of (option_words ws)) (λ options.
+    and_then (name_of word) (λ name. and_then (optional_agent (agent_word ws)) (λ agent.
+    and_then (pairs_of (option_words ws)) (λ options.
     Ok (Command.Device name agent options))))

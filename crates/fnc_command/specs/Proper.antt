@@ -43,13 +43,15 @@ IsProperCoin mode (Some coin) = IsTimed mode
 
 -- names are names, a total is a millisecond to a day, and `exit` and `pass` are said in mode Timed alone
 abbrev pub IsProperCommand : Mode → Command → Type 0
-IsProperCommand mode (Command.Device name agent options) = IsTrue (is_name name) × IfSome agent (λ a. IsTrue (is_agent_name a))
+IsProperCommand mode (Command.Device name agent options) = IsTrue (is_name name)
+    × IfSome agent (λ a. IsTrue (is_agent_name a))
 IsProperCommand mode (Command.Remove name) = IsTrue (is_name name)
 IsProperCommand mode (Command.Level target index devices) = IsProperTarget target × IsTrue (list_all is_name devices)
 IsProperCommand mode (Command.Unlevel target index) = IsProperTarget target
 IsProperCommand mode (Command.Agent name json) = IsTrue (is_agent_name name)
 IsProperCommand mode (Command.Ask client kind target total coin) =
-    IsTrue (is_name client) × IsAskable kind × IsTrue (is_name target) × (1 ≤ total) × (total ≤ DAY) × IsProperCoin mode coin
+    IsTrue (is_name client) × IsAskable kind × IsTrue (is_name target) × (1 ≤ total) × (total ≤ DAY)
+    × IsProperCoin mode coin
 IsProperCommand mode (Command.Exit run exit output) = IsTimed mode × (run.0 < 2 ^ 32)
 IsProperCommand mode Command.Pass = IsTimed mode
 IsProperCommand mode (Command.Confirm client target) = IsTrue (is_name client) × IsTrue (is_name target)

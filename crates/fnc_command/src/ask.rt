@@ -63,7 +63,14 @@ pub fn read_ask(alloc: Global, line: &[u8], mode: Mode, out: &mut LineBuf) -> Re
 }
 
 fn words_of_ask(line: &[u8]) -> Result<Asking<'_>, Cause>
-    ensures read { MatchResult result (λ a. asking (words line.now) ≡ Ok (record { client = a.client.now; action = a.action.now; target = a.target.now; options = words a.options.now })) (λ cause. asking (words line.now) ≡ Err cause) }
+    ensures read { MatchResult result (λ a. asking (words line.now)
+        ≡ Ok (record {
+          client = a.client.now;
+          action = a.action.now;
+          target = a.target.now;
+          options =
+              words a.options.now;
+        })) (λ cause. asking (words line.now) ≡ Err cause) }
     ensures client { IfOk result (λ a. length a.client.now ≤ length line.now) }
     ensures action { IfOk result (λ a. length a.action.now ≤ length line.now) }
     ensures target { IfOk result (λ a. length a.target.now ≤ length line.now) }

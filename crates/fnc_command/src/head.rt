@@ -37,7 +37,9 @@ pub struct Head<'a> {
 /// Reads how a line begins.
 pub fn read_head<'a>(line: &'a [u8], mode: Mode, out: &mut LineBuf) -> Result<Head<'a>, Cause>
     requires { length line.now ≤ out.old.size }
-    ensures read { MatchResult result (λ h. beginning mode (words line.now) ≡ Ok (record { moment = h.moment; verb = h.verb; words = words h.rest.now })) (λ cause. beginning mode (words line.now) ≡ Err cause) }
+    ensures read { MatchResult result (λ h. beginning mode (words line.now)
+        ≡ Ok (record { moment = h.moment; verb = h.verb; words = words h.rest.now })) (λ cause.
+        beginning mode (words line.now) ≡ Err cause) }
     ensures within { IfOk result (λ h. length h.rest.now ≤ length line.now) }
     ensures size { out.new.size ≡ out.old.size }
 {
@@ -71,7 +73,9 @@ fn read_verb<'a>(
     out: &mut LineBuf,
 ) -> Result<Head<'a>, Cause>
     requires { length line.now ≤ out.old.size }
-    ensures read { MatchResult result (λ h. after_moment mode moment (words line.now) ≡ Ok (record { moment = h.moment; verb = h.verb; words = words h.rest.now })) (λ cause. after_moment mode moment (words line.now) ≡ Err cause) }
+    ensures read { MatchResult result (λ h. after_moment mode moment (words line.now)
+        ≡ Ok (record { moment = h.moment; verb = h.verb; words = words h.rest.now })) (λ cause.
+        after_moment mode moment (words line.now) ≡ Err cause) }
     ensures within { IfOk result (λ h. length h.rest.now ≤ length line.now) }
     ensures size { out.new.size ≡ out.old.size }
 {

@@ -16,6 +16,3 @@ mod word;
 
 pub use command::{Command, ExitRead, Mode, Read};
 pub use read::{read_command, read_exit};
-
-#[cfg(test)]
-mod tests;

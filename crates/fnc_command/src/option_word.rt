@@ -14,7 +14,8 @@ use std::alloc::Global;
 
 /// An option word cut at its first equals sign. None where it has none.
 pub fn cut_option(word: &[u8]) -> Option<(&[u8], &[u8])>
-    ensures cut { MatchOption result (cut_option word.now ≡ None) (λ cut. cut_option word.now ≡ Some (cut.0.now, cut.1.now)) }
+    ensures cut { MatchOption result (cut_option word.now ≡ None) (λ cut. cut_option word.now
+        ≡ Some (cut.0.now, cut.1.now)) }
     ensures within { IfSome result (λ cut. length cut.0.now + length cut.1.now ≤ length word.now) }
 {
     let at = equals_at(word)?;

@@ -47,7 +47,8 @@ fn read_line(alloc: Global, line: &[u8], mode: Mode) -> Result<Read, Cause>
 
 /// Whether a line can be read: it has at most 8,192 bytes, of UTF-8.
 fn check_readable(line: &[u8]) -> Result<(), Cause>
-    ensures read { MatchResult result (λ _. readable line.now ≡ Ok (words line.now)) (λ cause. readable line.now ≡ Err cause) }
+    ensures read { MatchResult result (λ _. readable line.now ≡ Ok (words line.now)) (λ cause.
+        readable line.now ≡ Err cause) }
     ensures short { IfOk result (λ _. length line.now ≤ LONGEST_LINE) }
 {
     if line.len() > LONGEST_LINE {
@@ -106,7 +107,8 @@ fn read_words(
 /// the line says anything else or nothing, and then the buffer is empty. Takes no memory.
 pub fn read_exit(line: &[u8], out: &mut LineBuf) -> Option<ExitRead>
     requires { length line.now ≤ out.old.size }
-    ensures read { MatchOption result (exit_said (said Mode.Timed line.now) ≡ None) (λ exit. exit_said (said Mode.Timed line.now) ≡ Some (exit, out.new.bytes)) }
+    ensures read { MatchOption result (exit_said (said Mode.Timed line.now) ≡ None) (λ exit.
+        exit_said (said Mode.Timed line.now) ≡ Some (exit, out.new.bytes)) }
     ensures empty { IfNone result (out.new.bytes ≡ []) }
     ensures proper { IfSome result IsProperExit }
     ensures size { out.new.size ≡ out.old.size }
@@ -122,7 +124,8 @@ pub fn read_exit(line: &[u8], out: &mut LineBuf) -> Option<ExitRead>
 
 fn exit_line(line: &[u8], out: &mut LineBuf) -> Option<ExitRead>
     requires { length line.now ≤ out.old.size }
-    ensures read { MatchOption result (exit_said (said Mode.Timed line.now) ≡ None) (λ exit. exit_said (said Mode.Timed line.now) ≡ Some (exit, out.new.bytes)) }
+    ensures read { MatchOption result (exit_said (said Mode.Timed line.now) ≡ None) (λ exit.
+        exit_said (said Mode.Timed line.now) ≡ Some (exit, out.new.bytes)) }
     ensures size { out.new.size ≡ out.old.size }
 {
     check_readable(line).ok()?;
@@ -132,7 +135,8 @@ fn exit_line(line: &[u8], out: &mut LineBuf) -> Option<ExitRead>
 
 fn exit_after(head: Head<'_>, out: &mut LineBuf) -> Option<ExitRead>
     requires { length head.rest.now ≤ out.old.size }
-    ensures read { MatchOption result (exit_said (after_head head.entry) ≡ None) (λ exit. exit_said (after_head head.entry) ≡ Some (exit, out.new.bytes)) }
+    ensures read { MatchOption result (exit_said (after_head head.entry) ≡ None) (λ exit.
+        exit_said (after_head head.entry) ≡ Some (exit, out.new.bytes)) }
     ensures size { out.new.size ≡ out.old.size }
 {
     let Verb::Exit = head.verb else {

@@ -11,7 +11,8 @@ use percent_encoding::percent_decode;
 /// Puts the bytes that a word spells into a buffer, in place of what it held.
 pub fn spell(word: &[u8], out: &mut LineBuf) -> Result<(), Cause>
     requires { length word.now ≤ out.old.size }
-    ensures read { MatchResult result (λ _. bytes_of word.now ≡ Ok out.new.bytes) (λ cause. bytes_of word.now ≡ Err cause) }
+    ensures read { MatchResult result (λ _. bytes_of word.now ≡ Ok out.new.bytes) (λ cause.
+        bytes_of word.now ≡ Err cause) }
     ensures size { out.new.size ≡ out.old.size }
 {
     out.clear();

@@ -63,8 +63,10 @@ pub fn read_agent(alloc: Global, line: &[u8], out: &mut LineBuf) -> Result<Comma
 
 /// The words after `exit`. Where there is no word of output, it is empty.
 fn words_of_exit(line: &[u8]) -> Result<(&[u8], &[u8], &[u8]), Cause>
-    ensures read { MatchResult result (λ w. exit_words (words line.now) ≡ Ok (w.0.now, w.1.now, w.2.now)) (λ cause. exit_words (words line.now) ≡ Err cause) }
-    ensures within { IfOk result (λ w. (length w.0.now ≤ length line.now) × (length w.1.now ≤ length line.now) × (length w.2.now ≤ length line.now)) }
+    ensures read { MatchResult result (λ w. exit_words (words line.now) ≡ Ok (w.0.now, w.1.now, w.2.now)) (λ cause.
+        exit_words (words line.now) ≡ Err cause) }
+    ensures within { IfOk result (λ w. (length w.0.now ≤ length line.now) × (length w.1.now ≤ length line.now)
+        × (length w.2.now ≤ length line.now)) }
 {
     let run = wanted_word(line)?;
     let exit = wanted_word(run.rest)?;
@@ -80,7 +82,9 @@ fn words_of_exit(line: &[u8]) -> Result<(&[u8], &[u8], &[u8]), Cause>
 /// What the words after `exit` say. The bytes of the output are put into the buffer. Takes no memory.
 pub fn read_ended(line: &[u8], out: &mut LineBuf) -> Result<(Run, Exit), Cause>
     requires { length line.now ≤ out.old.size }
-    ensures read { MatchResult result (λ e. ended (words line.now) ≡ Ok (record { run = e.0.0; exit = e.1; output = out.new.bytes })) (λ cause. ended (words line.now) ≡ Err cause) }
+    ensures read { MatchResult result (λ e. ended (words line.now)
+        ≡ Ok (record { run = e.0.0; exit = e.1; output = out.new.bytes })) (λ cause.
+        ended (words line.now) ≡ Err cause) }
     ensures size { out.new.size ≡ out.old.size }
 {
     let (run, exit_word, output) = words_of_exit(line)?;

@@ -27,7 +27,8 @@ pub fn first_word(line: &[u8]) -> Option<Cut<'_>>
 
 /// The first word of a line that is to have one.
 pub fn wanted_word(line: &[u8]) -> Result<Cut<'_>, Cause>
-    ensures { MatchResult result (λ cut. CutsWord line.now (Some cut)) (λ cause. (words line.now ≡ []) × (cause ≡ Cause.MissingWord)) }
+    ensures { MatchResult result (λ cut. CutsWord line.now (Some cut)) (λ cause.
+        (words line.now ≡ []) × (cause ≡ Cause.MissingWord)) }
 {
     match first_word(line) {
         Some(cut) => Ok(cut),
@@ -47,7 +48,8 @@ pub fn no_word(line: &[u8]) -> Result<(), Cause>
 
 /// The word of a line that is to have one.
 pub fn one_word(line: &[u8]) -> Result<&[u8], Cause>
-    ensures read { MatchResult result (λ w. one (words line.now) ≡ Ok w.now) (λ cause. one (words line.now) ≡ Err cause) }
+    ensures read { MatchResult result (λ w. one (words line.now) ≡ Ok w.now) (λ cause.
+        one (words line.now) ≡ Err cause) }
     ensures within { IfOk result (λ w. length w.now ≤ length line.now) }
 {
     let cut = wanted_word(line)?;
@@ -57,7 +59,8 @@ pub fn one_word(line: &[u8]) -> Result<&[u8], Cause>
 
 /// The words of a line that is to have two.
 pub fn two_words(line: &[u8]) -> Result<(&[u8], &[u8]), Cause>
-    ensures read { MatchResult result (λ w. two (words line.now) ≡ Ok (w.0.now, w.1.now)) (λ cause. two (words line.now) ≡ Err cause) }
+    ensures read { MatchResult result (λ w. two (words line.now) ≡ Ok (w.0.now, w.1.now)) (λ cause.
+        two (words line.now) ≡ Err cause) }
     ensures within { IfOk result (λ w. length w.0.now + length w.1.now ≤ length line.now) }
 {
     let first = wanted_word(line)?;
@@ -68,7 +71,8 @@ pub fn two_words(line: &[u8]) -> Result<(&[u8], &[u8]), Cause>
 
 /// The words of a line that is to have three.
 pub fn three_words(line: &[u8]) -> Result<(&[u8], &[u8], &[u8]), Cause>
-    ensures read { MatchResult result (λ w. three (words line.now) ≡ Ok (w.0.now, w.1.now, w.2.now)) (λ cause. three (words line.now) ≡ Err cause) }
+    ensures read { MatchResult result (λ w. three (words line.now) ≡ Ok (w.0.now, w.1.now, w.2.now)) (λ cause.
+        three (words line.now) ≡ Err cause) }
     ensures within { IfOk result (λ w. length w.0.now + length w.1.now + length w.2.now ≤ length line.now) }
 {
     let first = wanted_word(line)?;

@@ -53,18 +53,24 @@ pub record AreAllowances (a : Allowances) : Type 0 where
   pub list : is_allowed a.list ≡ true
   pub status : is_allowed a.status ≡ true
 
-hosts_of_is : (value : Option (List ℕ)) (names : List (List ℕ)) → ((text : List ℕ) → value ≡ Some text → is_option_value text ≡ true) → hosts_of value ≡ Ok names → AreHosts names
+hosts_of_is : (value : Option (List ℕ)) (names : List (List ℕ))
+    → ((text : List ℕ) → value ≡ Some text → is_option_value text ≡ true) → hosts_of value ≡ Ok names → AreHosts names
 hosts_of_is None names well h = subst AreHosts (same_Ok [] names h) (record { few = refl; each = refl })
 hosts_of_is (Some text) names well h =
     let parts = and_parts (nat_le (length text) LONGEST_VALUE) (list_all is_value_byte text) (well text refl) in
-    let all = hosts_are text names (leb-true _ _ parts.0) parts.1 (or_fault_is DefineFault.BadHostList (host_list text) names h) in
+    let all =
+    hosts_are text names (leb-true _ _ parts.0) parts.1
+    (or_fault_is DefineFault.BadHostList (host_list text) names h) in
     record { few = le-leb (length names) MOST_HOSTS all.0; each = all.1 }
 
-map_of_is : (value : Option (List ℕ)) (pairs : List Pair) → ((text : List ℕ) → value ≡ Some text → is_option_value text ≡ true) → map_of value ≡ Ok pairs → ArePairs pairs
+map_of_is : (value : Option (List ℕ)) (pairs : List Pair)
+    → ((text : List ℕ) → value ≡ Some text → is_option_value text ≡ true) → map_of value ≡ Ok pairs → ArePairs pairs
 map_of_is None pairs well h = subst ArePairs (same_Ok [] pairs h) (record { few = refl; each = refl })
 map_of_is (Some text) pairs well h =
     let parts = and_parts (nat_le (length text) LONGEST_VALUE) (list_all is_value_byte text) (well text refl) in
-    let all = pairs_are text pairs (leb-true _ _ parts.0) parts.1 (or_fault_is DefineFault.BadHostMap (host_map text) pairs h) in
+    let all =
+    pairs_are text pairs (leb-true _ _ parts.0) parts.1
+    (or_fault_is DefineFault.BadHostMap (host_map text) pairs h) in
     record { few = le-leb (length pairs) MOST_HOSTS all.0; each = all.1 }
 
 module _ (options : List Pair) where
@@ -83,18 +89,23 @@ module _ (options : List Pair) where
   abbrev with_hosts : Actions → List (List ℕ) → Result Nodes DefineFault
   with_hosts actions hosts = map_of (said (codes "pcmk_host_map")) >>= with_map actions hosts
 
-  nodes_are : list_all is_option options ≡ true → (actions : Actions) (n : Nodes) → nodes options actions ≡ Ok n → AreHosts n.hosts × ArePairs n.map
+  nodes_are : list_all is_option options ≡ true → (actions : Actions) (n : Nodes) → nodes options actions ≡ Ok n
+      → AreHosts n.hosts × ArePairs n.map
   nodes_are formed actions n h =
       let well = λ (name text : List ℕ) (e : said name ≡ Some text). (value_is name options text formed e).0 in
       let hosts = bind_ok (hosts_of (said (codes "pcmk_host_list"))) (with_hosts actions) n h in
       let map = bind_ok (map_of (said (codes "pcmk_host_map"))) (with_map actions hosts.0) n hosts.2 in
-      let written = bind_ok (written_check (said (codes "pcmk_host_check"))) (with_written actions hosts.0 map.0) n map.2 in
-      subst (λ (m : Nodes). AreHosts m.hosts × ArePairs m.map) (same_Ok _ n written.2)
-      (hosts_of_is (said (codes "pcmk_host_list")) hosts.0 (well (codes "pcmk_host_list")) hosts.1, map_of_is (said (codes "pcmk_host_map")) map.0 (well (codes "pcmk_host_map")) map.1)
+      let written = bind_ok (written_check (said (codes "pcmk_host_check")))
+      (with_written actions hosts.0 map.0) n map.2 in
+      subst (λ (m : Nodes). AreHosts m.hosts × ArePairs m.map) (same_Ok _ n written.2) (
+        hosts_of_is (said (codes "pcmk_host_list")) hosts.0 (well (codes "pcmk_host_list")) hosts.1,
+        map_of_is (said (codes "pcmk_host_map")) map.0 (well (codes "pcmk_host_map")) map.1,
+      )
 
   abbrev with_cap : Base → ℕ → Option ℕ → Result Schedule DefineFault
   with_cap base max cap =
-      priority_of (said (codes "priority")) >>= λ priority. Ok (record { base = base; max = max; cap = cap; priority = priority })
+      priority_of (said (codes "priority")) >>= λ priority.
+      Ok (record { base = base; max = max; cap = cap; priority = priority })
 
   abbrev with_max : Base → ℕ → Result Schedule DefineFault
   with_max base max = limit_of (said (codes "pcmk_action_limit")) >>= with_cap base max
@@ -108,7 +119,8 @@ module _ (options : List Pair) where
       let base = bind_ok (base_of (said (codes "pcmk_delay_base"))) with_base s h in
       let max = bind_ok (time (codes "pcmk_delay_max") 0 options) (with_max base.0) s base.2 in
       let cap = bind_ok (limit_of (said (codes "pcmk_action_limit"))) (with_cap base.0 max.0) s max.2 in
-      let priority = bind_ok (priority_of (said (codes "priority"))) (λ priority. Ok (record { base = base.0; max = max.0; cap = cap.0; priority = priority })) s cap.2 in
+      let priority = bind_ok (priority_of (said (codes "priority"))) (λ priority.
+      Ok (record { base = base.0; max = max.0; cap = cap.0; priority = priority })) s cap.2 in
       let all : Schedule = record { base = base.0; max = max.0; cap = cap.0; priority = priority.0 } in
       subst IsSchedule {x = all} (same_Ok all s priority.2)
       (record {
@@ -120,7 +132,8 @@ module _ (options : List Pair) where
 
   abbrev with_list : Allowed → Allowed → Allowed → Allowed → Result Allowances DefineFault
   with_list on off reboot list =
-      allowed Kind.Status options >>= λ status. Ok (record { on = on; off = off; reboot = reboot; list = list; status = status })
+      allowed Kind.Status options >>= λ status.
+      Ok (record { on = on; off = off; reboot = reboot; list = list; status = status })
 
   abbrev with_reboot : Allowed → Allowed → Allowed → Result Allowances DefineFault
   with_reboot on off reboot = allowed Kind.List options >>= with_list on off reboot
@@ -137,7 +150,9 @@ module _ (options : List Pair) where
       let off = bind_ok (allowed Kind.Off options) (with_off on.0) a on.2 in
       let reboot = bind_ok (allowed Kind.Reboot options) (with_reboot on.0 off.0) a off.2 in
       let list = bind_ok (allowed Kind.List options) (with_list on.0 off.0 reboot.0) a reboot.2 in
-      let status = bind_ok (allowed Kind.Status options) (λ status. Ok (record { on = on.0; off = off.0; reboot = reboot.0; list = list.0; status = status })) a list.2 in
+      let status =
+      bind_ok (allowed Kind.Status options) (λ status.
+      Ok (record { on = on.0; off = off.0; reboot = reboot.0; list = list.0; status = status })) a list.2 in
       let all : Allowances = record { on = on.0; off = off.0; reboot = reboot.0; list = list.0; status = status.0 } in
       subst AreAllowances {x = all} (same_Ok all a status.2)
       (record {
@@ -192,8 +207,10 @@ module _ (options : List Pair) where
         let named = bind_ok (nodes options description.actions) with_nodes d right.2 in
         let starts = bind_ok (schedule options) (with_schedule named.0) d named.2 in
         let actions = bind_ok (allowances options) (with_allowances named.0 starts.0) d starts.2 in
-        let keep = bind_ok (time (codes "pcmk_list_keep") 0 options) (with_keep named.0 starts.0 actions.0) d actions.2 in
-        let given = bind_ok (all_given options carrier description.parameters) (λ given. Ok (built named.0 starts.0 actions.0 keep.0)) d keep.2 in
+        let keep =
+        bind_ok (time (codes "pcmk_list_keep") 0 options) (with_keep named.0 starts.0 actions.0) d actions.2 in
+        let given = bind_ok (all_given options carrier description.parameters) (λ given.
+        Ok (built named.0 starts.0 actions.0 keep.0)) d keep.2 in
         let formed = options_are options right.0 right.1 in
         let hosts = nodes_are formed.1 description.actions named.0 named.1 in
         let start = schedule_is formed.1 starts.0 starts.1 in
@@ -222,6 +239,7 @@ module _ (options : List Pair) where
         })
 
 -- an answer that gives a definition gives a bounded one
-pub IfOk-bounded : (options : List Pair) (description : Description) (answer : Result Definition DefineFault) → Gives answer (define options description) → IsFitDescription description → IfOk answer IsBounded
+pub IfOk-bounded : (options : List Pair) (description : Description) (answer : Result Definition DefineFault)
+    → Gives answer (define options description) → IsFitDescription description → IfOk answer IsBounded
 IfOk-bounded options description (Ok d) h fit = bounded options description fit d h
 IfOk-bounded options description (Err fault) h fit = tt

@@ -6,5 +6,8 @@ use Rattle.fnc_device.specs.declared.fault.DefineFault.{DefineFault}
 use Rattle.fnc_device.specs.Options.{is_given, distinct_after}
 
 -- an option is held against those before it, and then stands before the others
-pub distinct_after-drop : (os : List Pair) (i : ℕ) (o : Pair) → i < length os → o ≡ get_or os i o → distinct_after (take i os) (drop i os) ≡ cond (is_given o.name (take i os)) (Err (DefineFault.RepeatedOption o.name)) (distinct_after (take (i + 1) os) (drop (i + 1) os))
+pub distinct_after-drop : (os : List Pair) (i : ℕ) (o : Pair) → i < length os → o ≡ get_or os i o
+    → distinct_after (take i os) (drop i os)
+    ≡ cond (is_given o.name (take i os)) (Err (DefineFault.RepeatedOption o.name))
+    (distinct_after (take (i + 1) os) (drop (i + 1) os))
 distinct_after-drop os i o h e = rw (drop_more os i o h, take_more os i o h, sym e) refl

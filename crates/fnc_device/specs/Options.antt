@@ -16,7 +16,8 @@ action_option kind = codes "pcmk_" ++ kind_word kind ++ codes "_action"
 -- whether an option names the word that is sent in place of an action
 abbrev pub is_action_option : List ℕ → Bool
 is_action_option name =
-    bytes_eq name (action_option Kind.On) || bytes_eq name (action_option Kind.Off) || bytes_eq name (action_option Kind.Reboot)
+    bytes_eq name (action_option Kind.On) || bytes_eq name (action_option Kind.Off)
+    || bytes_eq name (action_option Kind.Reboot)
     || bytes_eq name (action_option Kind.List) || bytes_eq name (action_option Kind.Status)
 
 -- the host argument is the name of an option, or `none`

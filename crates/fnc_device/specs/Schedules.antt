@@ -60,7 +60,8 @@ signed sign (Some n) = Ok (sign n)
 abbrev pub priority_of_text : List ℕ → Result ℤ DefineFault
 priority_of_text [] = Err DefineFault.BadPriority
 priority_of_text (b ∷ bs) =
-    if b == 45 then signed (λ n. neg_ℤ (pos n)) (number GREATEST_PRIORITY bs) else signed pos (number GREATEST_PRIORITY (b ∷ bs))
+    if b == 45 then signed (λ n. neg_ℤ (pos n)) (number GREATEST_PRIORITY bs)
+    else signed pos (number GREATEST_PRIORITY (b ∷ bs))
 
 -- the priority, 0 where none is given
 abbrev pub priority_of : Option (List ℕ) → Result ℤ DefineFault

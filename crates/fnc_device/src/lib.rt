@@ -12,6 +12,3 @@ mod time;
 
 pub use definition::define;
 pub use fault::DefineFault;
-
-#[cfg(test)]
-mod tests;

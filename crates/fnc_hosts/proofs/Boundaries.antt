@@ -12,7 +12,8 @@ use Rattle.std.proofs.lemmas.List.{get_or-drop, length-drop}
 use Rattle.std.proofs.lemmas.List.Sums.{passes_at_first, prefix_len_passes, prefix_len-le-length}
 use Rattle.std.proofs.lemmas.Str.{IsCharBoundary-start, IsCharBoundary-end, IsCharBoundary-before_ascii, IsCharBoundary-after_ascii}
 
-module _ (separator : ℕ → Bool) (ascii : (b : ℕ) → separator b ≡ true → b < 128) (text : List ℕ) (utf8 : IsUtf8 text) where
+module _ (separator : ℕ → Bool) (ascii : (b : ℕ) → separator b ≡ true → b < 128) (text : List ℕ)
+    (utf8 : IsUtf8 text) where
   past : (k : ℕ) → k ≤ prefix_len separator text → IsCharBoundary text k
   past zero h = IsCharBoundary-start text utf8
   past (suc k) h =
@@ -25,7 +26,8 @@ module _ (separator : ℕ → Bool) (ascii : (b : ℕ) → separator b ≡ true 
   IsCharBoundary-past_separators k at = past k (omega arith)
 
   -- at the next separator, or at the end
-  pub IsCharBoundary-at_separator : (k n : ℕ) → k ≤ length text → n ≡ position_or_len separator (drop k text) → IsCharBoundary text (k + n)
+  pub IsCharBoundary-at_separator : (k n : ℕ) → k ≤ length text → n ≡ position_or_len separator (drop k text)
+      → IsCharBoundary text (k + n)
   IsCharBoundary-at_separator k n inside width =
       let within = prefix_len-le-length (λ b. not (separator b)) (drop k text) in
       let rest = length-drop k text in

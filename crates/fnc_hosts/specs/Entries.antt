@@ -43,4 +43,5 @@ CutsFirst separator text None = (place : ℕ) → entries_from separator place t
 CutsFirst separator text (Some cut) =
     (0 < length cut.entry.now)
     × (cut.skipped + length cut.entry.now + length cut.rest.now ≡ length text)
-    × ((place : ℕ) → entries_from separator place text ≡ record { place = place + cut.skipped; text = cut.entry.now } ∷ entries_from separator (place + cut.skipped + length cut.entry.now) cut.rest.now)
+    × ((place : ℕ) → entries_from separator place text ≡ record { place = place + cut.skipped; text = cut.entry.now }
+    ∷ entries_from separator (place + cut.skipped + length cut.entry.now) cut.rest.now)

@@ -8,6 +8,3 @@ mod hosts;
 
 pub use check::check_kind;
 pub use hosts::{HostFault, read_host_list, read_host_map};
-
-#[cfg(test)]
-mod tests;

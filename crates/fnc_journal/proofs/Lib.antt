@@ -22,3 +22,4 @@ pub mod Prefixes
 pub mod LawfulSteps
 pub mod DrivenSteps
 pub mod Faults
+pub mod Separators

@@ -16,7 +16,8 @@ joined-cons : (n d : ℕ) (ds : List ℕ) → joined n (d ∷ ds) ≡ joined (n 
 joined-cons n d ds = rw (pow-suc 10 (length ds)) (omega arith)
 
 -- the same at a place of a list
-pub joined-drop : (n : ℕ) (ds : List ℕ) (i : ℕ) → i < length ds → joined n (drop i ds) ≡ joined (n * 10 + (get_or ds i 0 - 48)) (drop (i + 1) ds)
+pub joined-drop : (n : ℕ) (ds : List ℕ) (i : ℕ) → i < length ds → joined n (drop i ds)
+    ≡ joined (n * 10 + (get_or ds i 0 - 48)) (drop (i + 1) ds)
 joined-drop n ds i within = at_drop_more (joined n) ds i 0 within ∙ joined-cons n _ _
 
 one-le-ten : (k : ℕ) → 0 < 10 ^ k
@@ -31,7 +32,8 @@ joined-ge n ds = omega (arith, le-mul_of_pos_right n (one-le-ten (length ds)))
 pub at_most-none : (most n : ℕ) → most < n → at_most most n ≡ None
 at_most-none most n h = grind (arith, nat_tests)
 
-all_after : (p : ℕ → Bool) (b : ℕ) (bs : List ℕ) (is : Bool) → p b ≡ is → list_all p bs ≡ true → list_all p (cond is (b ∷ bs) []) ≡ true
+all_after : (p : ℕ → Bool) (b : ℕ) (bs : List ℕ) (is : Bool) → p b ≡ is → list_all p bs ≡ true
+    → list_all p (cond is (b ∷ bs) []) ≡ true
 all_after p b bs true e h = rw e h
 all_after p b bs false e h = refl
 

@@ -27,7 +27,8 @@ hexadecimal : (c : ℕ) → is_ascii_hexdigit c ≡ true → is_digit c 16 ≡ t
 hexadecimal c h = grind (arith, nat_tests)
 
 -- a well-formed `%` begins an escape, and no other byte does
-escape : (percent : Bool) (b high low : ℕ) → eqb b 37 ≡ percent → (percent && not (is_ascii_hexdigit high && is_ascii_hexdigit low)) ≡ false → is_escape b high low ≡ percent
+escape : (percent : Bool) (b high low : ℕ) → eqb b 37 ≡ percent
+    → (percent && not (is_ascii_hexdigit high && is_ascii_hexdigit low)) ≡ false → is_escape b high low ≡ percent
 escape false b high low e h = rw e refl
 escape true b high low e h =
     let digits = both _ _ h in rw (e, hexadecimal high digits.0, hexadecimal low digits.1) refl
@@ -46,7 +47,8 @@ percent_decode-spelled place (b ∷ high ∷ low ∷ rest) h =
     let third = found_none (is_malformed low rest) (place + 1 + 1) _ second.1 in
     let one = percent_decode-spelled (place + 1 + 1 + 1) rest third.1 in
     let other = percent_decode-spelled (place + 1) (high ∷ low ∷ rest) first.1 in
-    same_choice _ _ _ _ _ _ (escape (eqb b 37) b high low refl first.0) (ap (λ r. (16 * digit_value high + digit_value low) ∷ r) one) (ap (λ r. b ∷ r) other)
+    same_choice _ _ _ _ _ _ (escape (eqb b 37) b high low refl first.0)
+    (ap (λ r. (16 * digit_value high + digit_value low) ∷ r) one) (ap (λ r. b ∷ r) other)
 
 -- bytes that cannot be a text fail the test
 pub is_utf8-not : (bs : List ℕ) → (IsUtf8 bs → ⊥) → is_utf8 bs ≡ false

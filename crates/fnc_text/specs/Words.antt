@@ -27,4 +27,5 @@ words text = filter (λ part. nat_lt 0 (length part)) (slice_split is_space text
 abbrev pub NextWord : List ℕ → ℕ → Option Span → Type 0
 NextWord line from None = words (drop from line) ≡ []
 NextWord line from (Some s) =
-    (from ≤ s.start) × (s.start < s.end) × (s.end ≤ length line) × (words (drop from line) ≡ slice_range line s.start s.end ∷ words (drop s.end line))
+    (from ≤ s.start) × (s.start < s.end) × (s.end ≤ length line)
+    × (words (drop from line) ≡ slice_range line s.start s.end ∷ words (drop s.end line))

@@ -13,6 +13,3 @@ pub use escape::{EscapeFault, malformed, unescape, unescape_bytes};
 pub use name::is_name;
 pub use number::read_number;
 pub use word::{Span, next_word};
-
-#[cfg(test)]
-mod tests;

@@ -7,7 +7,8 @@ use Rattle.std.proofs.lemmas.Str.{is_utf8-from_IsUtf8, IsUtf8-from_is_utf8}
 use Rattle.fnc_agent_api.proofs.description.read_value.Goals as goal
 
 -- bytes that are no text, or no JSON, have no value
-refused : (bytes : List ℕ) (b : Bool) → is_utf8 bytes ≡ b → (is_utf8 bytes ≡ true → read bytes ≡ None) → json_of bytes ≡ None
+refused : (bytes : List ℕ) (b : Bool) → is_utf8 bytes ≡ b → (is_utf8 bytes ≡ true → read bytes ≡ None)
+    → json_of bytes ≡ None
 refused bytes true e none = rw e (none e)
 refused bytes false e none = rw e refl
 
@@ -16,4 +17,5 @@ returns-in-Ok-clause-ok c = rw (is_utf8-from_IsUtf8 c.args.json.now c.in-Ok.ensu
 
 pub returns-in-Err-2-clause-err : goal.returns-in-Err-2-clause-err
 returns-in-Err-2-clause-err c =
-    ap described_by (refused c.args.json.now (is_utf8 c.args.json.now) refl (λ u. c.in-Err.ensures.err (λ m. false≢true (c.if-is_memory.ensures.1 m)) (IsUtf8-from_is_utf8 c.args.json.now u)))
+    ap described_by (refused c.args.json.now (is_utf8 c.args.json.now) refl (λ u.
+    c.in-Err.ensures.err (λ m. false≢true (c.if-is_memory.ensures.1 m)) (IsUtf8-from_is_utf8 c.args.json.now u)))

@@ -8,7 +8,8 @@ use Rattle.fnc_agent_api.proofs.options.read_lines.Given as goal
 -- the pairs so far and those of the lines that are left are the pairs of all lines
 abbrev pub invariant-loop-rest : goal.invariant-loop-rest
 invariant-loop-rest l =
-    (after_pairs l.pairs (pairs_of l.number (lines_of l.rest)) ≡ pairs_of 1 (lines_of l.text)) × (l.number + length l.rest ≤ 32769) × shadow (Utf8 l.rest)
+    (after_pairs l.pairs (pairs_of l.number (lines_of l.rest)) ≡ pairs_of 1 (lines_of l.text))
+    × (l.number + length l.rest ≤ 32769) × shadow (Utf8 l.rest)
 
 abbrev pub decreases-loop-rest : goal.decreases-loop-rest
 decreases-loop-rest l = length l.rest

@@ -16,5 +16,7 @@ returns-in-Ok c =
 pub returns-in-Err : goal.returns-in-Err
 returns-in-Err c =
     let short : ltb LONGEST_OPTIONS (length c.args.input.now) ≡ false = grind (arith, nat_tests) in
-    let no_text : is_utf8 c.args.input.now ≡ false = false_from_ne_true (is_utf8 c.args.input.now) (λ e. c.in-Err.ensures.cases.0 (IsUtf8-from_is_utf8 c.args.input.now e)) in
+    let no_text : is_utf8 c.args.input.now ≡ false =
+    false_from_ne_true (is_utf8 c.args.input.now) (λ e.
+    c.in-Err.ensures.cases.0 (IsUtf8-from_is_utf8 c.args.input.now e)) in
     rw (short, no_text) refl

@@ -12,6 +12,11 @@ loop-byte-init c =
     let size = ap (λ b. b.size) c.clear.ensures in
     record {
       same_size = size;
-      joined = rw (c.clear.ensures, c.into_iter-byte-iterator.ensures.into_iter_gives, c.percent_decode-byte-items.ensures.bytes, decodes) refl;
+      joined = rw (
+        c.clear.ensures,
+        c.into_iter-byte-iterator.ensures.into_iter_gives,
+        c.percent_decode-byte-items.ensures.bytes,
+        decodes,
+      ) refl;
       room = rw size (omega (arith, c.requires));
     }

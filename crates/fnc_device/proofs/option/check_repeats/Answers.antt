@@ -10,7 +10,8 @@ returns-then-has_pair c =
     let step = distinct_after-drop c.args.options.now c.loop-place.place o.result (omega arith) o.is in
     let given = rw c.as_str.ensures at c.if-has_pair.ensures in
     let name = c.in_ok-name.ensures ∙ c.as_str-then-has_pair.ensures in
-    sym c.loop-place.invariant ∙ step ∙ cond-true _ _ _ (sym given) ∙ ap (λ n. Err (DefineFault.RepeatedOption n)) (sym name)
+    sym c.loop-place.invariant ∙ step ∙ cond-true _ _ _ (sym given)
+    ∙ ap (λ n. Err (DefineFault.RepeatedOption n)) (sym name)
 
 pub loop-place-preserved : goal.loop-place-preserved
 loop-place-preserved c =

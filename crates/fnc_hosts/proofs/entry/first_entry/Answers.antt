@@ -15,19 +15,22 @@ returns-then-length-eq0 c place =
 pub range-requires-clause-start_boundary : goal.range-requires-clause-start_boundary
 range-requires-clause-start_boundary c _ =
     let skipped = rw c.as_bytes.ensures.value at c.first_part-skipped.ensures.skipped in
-    IsCharBoundary-past_separators (separates c.args.form) (separators_ascii c.args.form) c.args.text.now c.utf8.text c.first_part-skipped.result.0 skipped
+    IsCharBoundary-past_separators (separates c.args.form) (separators_ascii c.args.form) c.args.text.now c.utf8.text
+    c.first_part-skipped.result.0 skipped
 
 pub range-requires-clause-end_boundary : goal.range-requires-clause-end_boundary
 range-requires-clause-end_boundary c =
     let part = c.first_part-skipped in
     let width = rw c.as_bytes.ensures.value at part.ensures.length in
-    IsCharBoundary-at_separator (separates c.args.form) (separators_ascii c.args.form) c.args.text.now c.utf8.text part.result.0 part.result.1 (omega arith) width
+    IsCharBoundary-at_separator (separates c.args.form) (separators_ascii c.args.form) c.args.text.now c.utf8.text
+    part.result.0 part.result.1 (omega arith) width
 
 pub range_from-requires : goal.range_from-requires
 range_from-requires c _ =
     let part = c.first_part-skipped in
     let width = rw c.as_bytes.ensures.value at part.ensures.length in
-    IsCharBoundary-at_separator (separates c.args.form) (separators_ascii c.args.form) c.args.text.now c.utf8.text part.result.0 part.result.1 (omega arith) width
+    IsCharBoundary-at_separator (separates c.args.form) (separators_ascii c.args.form) c.args.text.now c.utf8.text
+    part.result.0 part.result.1 (omega arith) width
 
 pub returns : goal.returns
 returns c =
@@ -35,4 +38,5 @@ returns c =
     let text = c.as_bytes.ensures.value in
     let skipped = rw text at part.ensures.skipped in
     let width = rw text at part.ensures.length in
-    cut_first (separates c.args.form) c.args.text.now c.range.result.now c.range_from.result.now part.result.0 part.result.1 skipped width (omega arith) (omega arith) c.range.ensures.value c.range_from.ensures.value
+    cut_first (separates c.args.form) c.args.text.now c.range.result.now c.range_from.result.now part.result.0
+    part.result.1 skipped width (omega arith) (omega arith) c.range.ensures.value c.range_from.ensures.value

@@ -9,7 +9,8 @@ abbrev pub invariant-loop-cut : goal.invariant-loop-cut
 invariant-loop-cut l = record {
   utf8 : shadow (Utf8 l.rest);
   room : l.count + length l.rest ≤ length l.text;
-  counted : l.count + length (entries_from (separates l.form) (length l.text - length l.rest) l.rest) ≡ length (entries (separates l.form) l.text);
+  counted : l.count + length (entries_from (separates l.form) (length l.text - length l.rest) l.rest)
+      ≡ length (entries (separates l.form) l.text);
 }
 
 abbrev pub decreases-loop-cut : goal.decreases-loop-cut

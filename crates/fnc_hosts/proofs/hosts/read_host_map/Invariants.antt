@@ -11,7 +11,8 @@ abbrev pub invariant-loop-cut : goal.invariant-loop-cut
 invariant-loop-cut l = record {
   utf8 : shadow (Utf8 l.rest);
   room : length l.rest ≤ length l.text;
-  read : onto l.pairs (together (map host_pair (entries_from separates_map (length l.text - length l.rest) l.rest))) ≡ together (map host_pair (entries separates_map l.text));
+  read : onto l.pairs (together (map host_pair (entries_from separates_map (length l.text - length l.rest) l.rest)))
+      ≡ together (map host_pair (entries separates_map l.text));
 }
 
 abbrev pub decreases-loop-cut : goal.decreases-loop-cut
