@@ -1,6 +1,7 @@
 // The driver: it tells a core the inputs of a session, and after each starts what may start.
 
-ghost use Rattle.std.specs.Prelude.{◌≡◌, ◌≤◌, true, IfSome, length};
+ghost use Rattle.std.specs.Prelude.{◌≡◌, ◌≤◌, true, IfOk, IfSome, length};
+ghost use Rattle.fnc_journal.specs.declared.event.Event.{Event};
 ghost use Rattle.std.specs.Bool.{OnTrue};
 ghost use Rattle.std.specs.List.{AllByRecursion};
 ghost use Rattle.fnc_journal.specs.Lawful.{in_order};
@@ -11,16 +12,14 @@ ghost use Rattle.fnc_driver.specs.Askable.{IsAskable};
 use crate::plans::Written;
 use crate::steps::Step;
 use fnc_core::{Ask, Change, Core};
-use fnc_journal::{Confirmation, Described, Ended, Entry, Event, LevelCleared, LevelSet, Plan, Refusal, Registered, Request, Scope};
+use fnc_journal::limits::GREATEST_MOMENT;
+use fnc_journal::{Entry, Event, NoMemory, Plan, Request, Text};
 use fnc_journal_text::{print_one, read_entry};
 use fnc_judge::{is_in_order, is_plan};
 use fnc_outside::MemorySink;
 use std::alloc::Global;
 use std::process::Abort;
 use std::test::Fail;
-
-/// The greatest moment.
-const LATEST: u64 = 1_000_000_000_000_000;
 
 /// The change that an input makes of what a core knows.
 fn change_of(core: &Core, event: Event) -> Option<Change>
@@ -30,20 +29,12 @@ fn change_of(core: &Core, event: Event) -> Option<Change>
     ensures bounded { IfSome result (λ c. IsBoundedEvent (event_of core.now.history c)) }
 {
     match event {
-        Event::Device(Registered { registration, .. }) => Some(Change::Device(registration)),
+        Event::Device(device) => Some(Change::Device(device.registration)),
         Event::Gone { reg } => Some(Change::Gone(reg)),
-        Event::Level(LevelSet {
-            target,
-            index,
-            devices,
-        }) => Some(Change::Level {
-            target,
-            index,
-            devices,
-        }),
-        Event::LevelGone(LevelCleared { target, index }) => Some(Change::LevelGone { target, index }),
-        Event::Agent(Described { name, description }) => Some(Change::Agent { name, description }),
-        Event::Confirm(Confirmation { client, target }) => Some(Change::Confirm { client, target }),
+        Event::Level(set) => Some(Change::Level(set)),
+        Event::LevelGone(cleared) => Some(Change::LevelGone(cleared)),
+        Event::Agent(described) => Some(Change::Agent(described)),
+        Event::Confirm(word) => Some(Change::Confirm(word)),
         _ => None,
     }
 }
@@ -54,12 +45,12 @@ fn enter(rt: &impl Abort, core: &mut Core, entry: Entry)
 {
     let moment = entry.moment;
     assert!(rt; core.last() <= moment);
-    assert!(rt; moment <= LATEST);
+    assert!(rt; moment <= GREATEST_MOMENT);
     assert!(rt; is_in_order(&entry.event, core.journal()));
     let entered = match entry.event {
         Event::Pass => core.pass(moment).is_ok(),
-        Event::Refused(Refusal { line, cause }) => core.refuse(moment, line, cause).is_ok(),
-        Event::Exit(Ended { run, exit, listed }) => core.exit(moment, run, exit, listed).is_ok(),
+        Event::Refused(refusal) => core.refuse(moment, refusal.line, refusal.cause).is_ok(),
+        Event::Exit(ended) => core.exit(moment, ended.run, ended.exit, ended.listed).is_ok(),
         event => match change_of(core, event) {
             Some(change) => core.note(moment, change).is_ok(),
             None => false,
@@ -81,33 +72,19 @@ fn is_small(plan: &Plan) -> bool
             .all(|l| l.devices.as_slice().len() <= 8)
 }
 
-/// The request that an input makes of a core, with its scope.
+/// What a request asks of a core.
 #[tactic(auto, using(crate::proofs::InPlace::askable))]
-fn request_of(core: &Core, event: Event) -> Option<(Ask, Scope)>
-    requires ordered { in_order event core.now.history ≡ true }
-    ensures { IfSome result (λ r. IsAskable r.0 r.1 core.now.history) }
+fn ask_of(alloc: Global, core: &Core, request: &Request) -> Result<Ask, NoMemory>
+    requires ordered { in_order (Event.Ask request.now) core.now.history ≡ true }
+    ensures { IfOk result (λ a. IsAskable a request.now.scope core.now.history) }
 {
-    match event {
-        Event::Ask(Request {
-            client,
-            kind,
-            target,
-            total,
-            coin,
-            scope,
-            ..
-        }) => {
-            let ask = Ask {
-                client,
-                kind,
-                target,
-                total,
-                coin,
-            };
-            Some((ask, scope))
-        }
-        _ => None,
-    }
+    Ok(Ask {
+        client: Text::new(alloc, request.client.as_str())?,
+        kind: request.kind,
+        target: Text::new(alloc, request.target.as_str())?,
+        total: request.total,
+        coin: request.coin,
+    })
 }
 
 /// Asks the core, with a plan.
@@ -115,19 +92,25 @@ fn ask(
     rt: &impl Abort,
     alloc: Global,
     core: &mut Core,
-    entry: Entry,
+    entry: &Entry,
     written: &Written,
 ) -> Result<(), Fail> {
     let moment = entry.moment;
     assert!(rt; core.last() <= moment);
-    assert!(rt; moment <= LATEST);
+    assert!(rt; moment <= GREATEST_MOMENT);
     assert!(rt; is_in_order(&entry.event, core.journal()));
-    let (ask, scope) = request_of(core, entry.event).ok_or("no request")?;
-    let plan = written.plan(alloc, scope)?;
-    assert!(rt; is_plan(core.journal(), ask.kind, ask.target.as_str(), moment, &plan));
-    assert!(rt; is_small(&plan));
-    core.ask(alloc, moment, ask, plan)?;
-    Ok(())
+    match &entry.event {
+        Event::Ask(request) => {
+            let request = request.get();
+            let ask = ask_of(alloc, core, request)?;
+            let plan = written.plan(alloc, request.scope)?;
+            assert!(rt; is_plan(core.journal(), ask.kind, ask.target.as_str(), moment, &plan));
+            assert!(rt; is_small(&plan));
+            core.ask(alloc, moment, ask, plan)?;
+            Ok(())
+        }
+        _ => Err("no request")?,
+    }
 }
 
 /// Starts what may start.
@@ -145,15 +128,7 @@ fn tell(rt: &impl Abort, alloc: Global, core: &mut Core, step: &Step) -> Result<
     let line = step.line(alloc)?;
     match step {
         Step::Then(_) => return Ok(()),
-        Step::Ask(_, written) => {
-            ask(
-                rt,
-                alloc,
-                core,
-                read_entry(alloc, line.as_slice())?,
-                written,
-            )?;
-        }
+        Step::Ask(_, written) => ask(rt, alloc, core, &read_entry(alloc, line.as_slice())?, written)?,
         _ => enter(rt, core, read_entry(alloc, line.as_slice())?),
     }
     start_all(core);
