@@ -6,7 +6,10 @@ ghost use Rattle.fnc_text.specs.Names as Names;
 ghost use Rattle.fnc_journal.specs.Bounds as Bounds;
 ghost use Rattle.fnc_journal_text.specs.Within as Within;
 
-use fnc_journal::{Allowed, Base, Confirmation, Definition, Delay, Described, Description, Entry, Event, LevelCleared, LevelSet, LevelTarget, Pair, Parameter, Registered, Registration, Request, Text};
+use fnc_journal::{
+    Allowed, Base, Confirmation, Definition, Delay, Described, Description, Entry, Event,
+    LevelCleared, LevelSet, LevelTarget, Pair, Parameter, Registration, Request, Text,
+};
 use fnc_text::is_name;
 
 /// The longest duration, a day, in milliseconds.
@@ -17,25 +20,12 @@ pub(crate) fn is_within(entry: &Entry) -> bool
     ensures { result ≡ Within.is_within entry.now }
 {
     match &entry.event {
-        Event::Device(Registered { registration, .. }) => is_device(registration),
-        Event::Level(LevelSet {
-            target,
-            index,
-            devices,
-        }) => {
-            is_index(*index)
-                && is_target(target)
-                && !devices.as_slice().is_empty()
-                && devices.as_slice().len() <= 8
-                && are_names(devices.as_slice())
-        }
-        Event::LevelGone(LevelCleared { target, index }) => is_index(*index) && is_target(target),
-        Event::Agent(Described { name, description }) => {
-            is_agent_name(name.as_str()) && is_described(description)
-        }
-        Event::Ask(Request { client, target, .. }) | Event::Confirm(Confirmation { client, target }) => {
-            is_name(client.as_str()) && is_name(target.as_str())
-        }
+        Event::Device(device) => is_device(device.registration.get()),
+        Event::Level(level) => is_level(level),
+        Event::LevelGone(level) => is_level_gone(level),
+        Event::Agent(agent) => is_agent(agent),
+        Event::Ask(request) => is_request(request.get()),
+        Event::Confirm(confirmation) => is_confirmation(confirmation),
         _ => true,
     }
 }
@@ -347,4 +337,39 @@ fn is_index(index: u8) -> bool
     ensures { result ≡ Within.is_index index }
 {
     index > 0 && index <= 9
+}
+
+fn is_level(level: &LevelSet) -> bool
+    ensures { result ≡ Within.is_level level.now }
+{
+    let devices = level.devices.as_slice();
+    is_index(level.index)
+        && is_target(&level.target)
+        && !devices.is_empty()
+        && devices.len() <= 8
+        && are_names(devices)
+}
+
+fn is_level_gone(level: &LevelCleared) -> bool
+    ensures { result ≡ Within.is_level_gone level.now }
+{
+    is_index(level.index) && is_target(&level.target)
+}
+
+fn is_agent(agent: &Described) -> bool
+    ensures { result ≡ Within.is_agent agent.now }
+{
+    is_agent_name(agent.name.as_str()) && is_described(agent.description.get())
+}
+
+fn is_request(request: &Request) -> bool
+    ensures { result ≡ Within.is_request request.now }
+{
+    is_name(request.client.as_str()) && is_name(request.target.as_str())
+}
+
+fn is_confirmation(confirmation: &Confirmation) -> bool
+    ensures { result ≡ Within.is_confirmation confirmation.now }
+{
+    is_name(confirmation.client.as_str()) && is_name(confirmation.target.as_str())
 }
