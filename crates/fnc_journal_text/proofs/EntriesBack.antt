@@ -6,6 +6,13 @@ use Rattle.std.proofs.lemmas.Bool.{and_parts, leb-true}
 use Rattle.fnc_journal.specs.declared.definition.Actions.{Actions}
 use Rattle.fnc_journal.specs.declared.definition.Definition.{Definition}
 use Rattle.fnc_journal.specs.declared.definition.Registration.{Registration}
+use Rattle.fnc_journal.specs.declared.limits.TheConstants.{
+  LONGEST_NAME,
+  MOST_DEVICES_OF_LEVEL,
+  MOST_HOSTS,
+  MOST_LEVELS_OF_TARGET,
+  MOST_OPTIONS,
+}
 use Rattle.fnc_journal.specs.declared.entry.Entry.{Entry}
 use Rattle.fnc_journal.specs.declared.event.Event.{Event}
 use Rattle.fnc_journal.specs.declared.event.Registered.{Registered}
@@ -51,7 +58,7 @@ name-part name b t = text-part 32 name refl (name-has name b) t
 
 target-has : (t : LevelTarget) → Within.is_target t ≡ true → has_byte (Spelled.target_text t) ≡ true
 target-has (LevelTarget.Name name) b = name-has name b
-target-has (LevelTarget.Pattern pattern) b = some-has pattern (and_parts (nat_lt 0 (length pattern)) (nat_le (length pattern) 255) b).0
+target-has (LevelTarget.Pattern pattern) b = some-has pattern (and_parts (nat_lt 0 (length pattern)) (nat_le (length pattern) LONGEST_NAME) b).0
 
 target-characters : (t : LevelTarget) → Typed.is_target t ≡ true → Typed.are_characters (Spelled.target_text t) ≡ true
 target-characters (LevelTarget.Name name) t = t
@@ -61,7 +68,10 @@ targeted-part : (t : LevelTarget) → Within.is_target t ≡ true → Typed.is_t
 targeted-part t b k = text-part 32 (Spelled.target_text t) refl (target-has t b) (target-characters t k)
 
 index-fits : (index : ℕ) → Within.is_index index ≡ true → index < 2 ^ 8
-index-fits index b = let small : index ≤ 9 = leb-true index 9 (and_parts (nat_lt 0 index) (nat_le index 9) b).1 in omega (arith, small)
+index-fits index b =
+    let most = MOST_LEVELS_OF_TARGET in
+    let small : index ≤ 9 = leb-true index most (and_parts (nat_lt 0 index) (nat_le index most) b).1 in
+    omega (arith, small)
 
 -- a definition
 record AreNodes (d : Definition) : Type 0 where
@@ -72,7 +82,7 @@ are_nodes : (d : Definition) → Within.are_nodes d ≡ true → AreNodes d
 are_nodes d b =
     let five = and_parts _ (Bounds.is_carrier d.argument) b in
     let four = and_parts _ (list_all Bounds.is_host_pair d.map) five.0 in
-    let three = and_parts _ (nat_le (length d.map) 256) four.0 in
+    let three = and_parts _ (nat_le (length d.map) MOST_HOSTS) four.0 in
     let two = and_parts _ (list_all Bounds.is_host d.hosts) three.0 in
     record { hosts = two.1; argument = five.1 }
 
@@ -86,7 +96,7 @@ record AreLimits (d : Definition) : Type 0 where
 are_limits : (d : Definition) → Within.are_limits d ≡ true → AreLimits d
 are_limits d b =
     let six = and_parts _ (list_all Bounds.is_own_option d.own) b in
-    let five = and_parts _ (nat_le (length d.own) 32) six.0 in
+    let five = and_parts _ (nat_le (length d.own) MOST_OPTIONS) six.0 in
     let four = and_parts _ (Bounds.is_time d.keep) five.0 in
     let three = and_parts _ (Bounds.is_time d.max) four.0 in
     let two = and_parts _ (Bounds.is_base d.base) three.0 in
@@ -231,7 +241,7 @@ event-back m (Event.Gone reg) t b =
     }
 event-back m (Event.Level level) t b =
     let four = and_parts _ (list_all is_name level.devices) b in
-    let three = and_parts _ (nat_le (length level.devices) 8) four.0 in
+    let three = and_parts _ (nat_le (length level.devices) MOST_DEVICES_OF_LEVEL) four.0 in
     let two = and_parts _ (nat_lt 0 (length level.devices)) three.0 in
     let one = and_parts (Within.is_index level.index) (Within.is_target level.target) two.0 in
     let fits = index-fits level.index one.0 in

@@ -7,6 +7,14 @@ use Rattle.fnc_journal.specs.declared.definition.Description.{Description}
 use Rattle.fnc_journal.specs.declared.definition.Parameter.{Parameter}
 use Rattle.fnc_journal.specs.declared.definition.Registration.{Registration}
 use Rattle.fnc_journal.specs.declared.entry.Entry.{Entry}
+use Rattle.fnc_journal.specs.declared.limits.TheConstants.{
+  LONGEST_NAME,
+  MOST_DEVICES_OF_LEVEL,
+  MOST_HOSTS,
+  MOST_LEVELS_OF_TARGET,
+  MOST_OPTIONS,
+  MOST_PARAMETERS,
+}
 use Rattle.fnc_journal.specs.declared.event.Confirmation.{Confirmation}
 use Rattle.fnc_journal.specs.declared.event.Described.{Described}
 use Rattle.fnc_journal.specs.declared.event.Event.{Event}
@@ -32,9 +40,9 @@ use Rattle.fnc_text.specs.Names.{is_name}
 abbrev pub are_nodes : Definition → Bool
 are_nodes d =
     d.actions.off
-    && nat_le (length d.hosts) 256
+    && nat_le (length d.hosts) MOST_HOSTS
     && list_all is_host d.hosts
-    && nat_le (length d.map) 256
+    && nat_le (length d.map) MOST_HOSTS
     && list_all is_host_pair d.map
     && is_carrier d.argument
 
@@ -46,7 +54,7 @@ are_limits d =
     && is_base d.base
     && is_time d.max
     && is_time d.keep
-    && nat_le (length d.own) 32
+    && nat_le (length d.own) MOST_OPTIONS
     && list_all is_own_option d.own
 
 -- what it allows each action
@@ -73,18 +81,18 @@ is_parameter p = is_option_name p.name
 abbrev pub is_described : Description → Bool
 is_described d =
     d.actions.off
-    && nat_le (length d.parameters) 64
+    && nat_le (length d.parameters) MOST_PARAMETERS
     && list_all is_parameter d.parameters
     && is_carrier d.target
 
 -- what a level is for: a name, or a pattern of 1 to 255 bytes
 abbrev pub is_target : LevelTarget → Bool
 is_target (LevelTarget.Name name) = is_name name
-is_target (LevelTarget.Pattern pattern) = nat_lt 0 (length pattern) && nat_le (length pattern) 255
+is_target (LevelTarget.Pattern pattern) = nat_lt 0 (length pattern) && nat_le (length pattern) LONGEST_NAME
 
 -- the index of a level
 abbrev pub is_index : ℕ → Bool
-is_index index = nat_lt 0 index && nat_le index 9
+is_index index = nat_lt 0 index && nat_le index MOST_LEVELS_OF_TARGET
 
 -- the bounds of a level: 1 to 8 devices
 abbrev pub is_level : LevelSet → Bool
@@ -92,7 +100,7 @@ is_level level =
     is_index level.index
     && is_target level.target
     && nat_lt 0 (length level.devices)
-    && nat_le (length level.devices) 8
+    && nat_le (length level.devices) MOST_DEVICES_OF_LEVEL
     && list_all is_name level.devices
 
 abbrev pub is_level_gone : LevelCleared → Bool
