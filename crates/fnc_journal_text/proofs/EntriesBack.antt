@@ -1,5 +1,6 @@
 -- Each entry within the bounds is read back from its line.
-use Rattle.std.proofs.Common.{◌≡◌, ◌<◌, ◌≤◌, ◌^◌, ℕ, List, [], ◌∷◌, Bool, true, length, map, decimal, Ok, refl, ap, ◌∙◌, arith}
+use Rattle.std.proofs.Common.{◌≡◌, ◌<◌, ◌≤◌, ◌^◌, ℕ, List, [], ◌∷◌, Bool, true, length, map, decimal, Ok, refl, ap}
+use Rattle.std.proofs.Common.{◌∙◌, arith}
 use Rattle.std.specs.Prelude.{nat_lt, nat_le}
 use Rattle.std.specs.List.{list_all}
 use Rattle.std.proofs.lemmas.Bool.{and_parts, leb-true}
@@ -28,8 +29,17 @@ use Rattle.fnc_journal_text.specs.Spelled.{line_of, words_of}
 use Rattle.fnc_journal_text.specs.Typed as Typed
 use Rattle.fnc_journal_text.proofs.Spellings.{has_byte, lacks, some-has}
 use Rattle.fnc_journal_text.proofs.Splits.{is_part, words-back}
-use Rattle.fnc_journal_text.proofs.ValuesBack.{step, u64-back, u32-back, u8-back, text-back, text-part, number-part, optional-back, optional-lacks, kind-back, kind-part, phase-back, phase-part, check-back, check-lacks, flag-back, flag-part, exit-back, exit-part, scope-back, scope-part, answer-back, answer-part, answered-part, target-back, target-part, cap-back, cap-lacks, priority-back, priority-lacks, cause-back, cause-part, actions-back, actions-lack}
-use Rattle.fnc_journal_text.proofs.ListsBack.{name-has, names-back, names-lack, names-has, hosts-back, map-back, map-lacks, own-part, owns-back, parameter-part, parameters-back, base-back, base-lacks, time-back, time-lacks, allowed-back, allowed-lacks}
+use Rattle.fnc_journal_text.proofs.ValuesBack.{step, u64-back, u32-back, u8-back, text-back, text-part, number-part}
+use Rattle.fnc_journal_text.proofs.ValuesBack.{optional-back, optional-lacks, kind-back, kind-part, phase-back}
+use Rattle.fnc_journal_text.proofs.ValuesBack.{phase-part, check-back, check-lacks, flag-back, flag-part, exit-back}
+use Rattle.fnc_journal_text.proofs.ValuesBack.{exit-part, scope-back, scope-part, answer-back, answer-part}
+use Rattle.fnc_journal_text.proofs.ValuesBack.{answered-part, target-back, target-part, cap-back, cap-lacks}
+use Rattle.fnc_journal_text.proofs.ValuesBack.{priority-back, priority-lacks, cause-back, cause-part, actions-back}
+use Rattle.fnc_journal_text.proofs.ValuesBack.{actions-lack}
+use Rattle.fnc_journal_text.proofs.ListsBack.{name-has, names-back, names-lack, names-has, hosts-back, map-back}
+use Rattle.fnc_journal_text.proofs.ListsBack.{map-lacks, own-part, owns-back, parameter-part, parameters-back}
+use Rattle.fnc_journal_text.proofs.ListsBack.{base-back, base-lacks, time-back, time-lacks, allowed-back}
+use Rattle.fnc_journal_text.proofs.ListsBack.{allowed-lacks}
 
 -- words that are told apart
 abbrev AreApart : List (List ℕ) → Type 0
@@ -43,7 +53,8 @@ told_apart : (ws : List (List ℕ)) → AreApart ws → list_all (is_part 32) ws
 told_apart [] h = refl
 told_apart (w ∷ ws) h = rw (h.0, told_apart ws h.1) refl
 
-each-part : {X : Type 0} (word : X → List ℕ) (p : X → Bool) → ((x : X) → p x ≡ true → is_part 32 (word x) ≡ true) → (xs : List X) → list_all p xs ≡ true → AreApart (map word xs)
+each-part : {X : Type 0} (word : X → List ℕ) (p : X → Bool) → ((x : X) → p x ≡ true → is_part 32 (word x) ≡ true) →
+    (xs : List X) → list_all p xs ≡ true → AreApart (map word xs)
 each-part word p f [] h = tt
 each-part word p f (x ∷ xs) h = let two = and_parts (p x) (list_all p xs) h in (f x two.0, each-part word p f xs two.1)
 
@@ -58,13 +69,15 @@ name-part name b t = text-part 32 name refl (name-has name b) t
 
 target-has : (t : LevelTarget) → Within.is_target t ≡ true → has_byte (Spelled.target_text t) ≡ true
 target-has (LevelTarget.Name name) b = name-has name b
-target-has (LevelTarget.Pattern pattern) b = some-has pattern (and_parts (nat_lt 0 (length pattern)) (nat_le (length pattern) LONGEST_NAME) b).0
+target-has (LevelTarget.Pattern pattern) b =
+    some-has pattern (and_parts (nat_lt 0 (length pattern)) (nat_le (length pattern) LONGEST_NAME) b).0
 
 target-characters : (t : LevelTarget) → Typed.is_target t ≡ true → Typed.are_characters (Spelled.target_text t) ≡ true
 target-characters (LevelTarget.Name name) t = t
 target-characters (LevelTarget.Pattern pattern) t = t
 
-targeted-part : (t : LevelTarget) → Within.is_target t ≡ true → Typed.is_target t ≡ true → is_part 32 (escaped (Spelled.target_text t)) ≡ true
+targeted-part : (t : LevelTarget) → Within.is_target t ≡ true → Typed.is_target t ≡ true →
+    is_part 32 (escaped (Spelled.target_text t)) ≡ true
 targeted-part t b k = text-part 32 (Spelled.target_text t) refl (target-has t b) (target-characters t k)
 
 index-fits : (index : ℕ) → Within.is_index index ≡ true → index < 2 ^ 8
@@ -158,7 +171,8 @@ is_bounded : (r : Registration) → Within.is_device r ≡ true → IsBoundedDev
 is_bounded r b =
     let two = and_parts _ (Within.is_bounded r.definition) b in
     let one = and_parts (is_name r.name) (Within.is_agent_name r.agent) two.0 in
-    record { name = one.0; agent = (and_parts (is_name r.agent) _ one.1).0; definition = are_bounds r.definition two.1 }
+    let agent = and_parts (is_name r.agent) _ one.1 in
+    record { name = one.0; agent = agent.0; definition = are_bounds r.definition two.1 }
 
 device-part : (device : Registered) → device.reg.0 < 2 ^ 32 → IsBoundedDevice device.registration →
     Typed.IsDevice device.registration → AreApart (Spelled.device_words device)
@@ -316,7 +330,9 @@ event-back m (Event.Ask request) t b =
     }
 event-back m (Event.Exit ended) t b =
     record {
-      apart = with refl (with (u32-part ended.run.0 t.0) (with (exit-part ended.exit t.1) (with (flag-part ended.listed) tt)));
+      apart =
+          with refl
+          (with (u32-part ended.run.0 t.0) (with (exit-part ended.exit t.1) (with (flag-part ended.listed) tt)));
       read =
           step _ ended.run.0 _ _ (u32-back ended.run.0 t.0)
           (step _ ended.exit _ _ (exit-back ended.exit t.1)
@@ -376,5 +392,7 @@ event-back m (Event.Reply reply) t b =
 pub entry-back : (e : Entry) → Typed.IsTyped e → Within.is_within e ≡ true → entry_of (words (line_of e)) ≡ Ok e
 entry-back e t b =
     let back = event-back (decimal e.moment) e.event t.event b in
-    ap entry_of (words-back (decimal e.moment) (words_of e.event) (number-part 32 e.moment refl t.moment) (told_apart (words_of e.event) back.apart))
+    let moment = number-part 32 e.moment refl t.moment in
+    let apart = told_apart (words_of e.event) back.apart in
+    ap entry_of (words-back (decimal e.moment) (words_of e.event) moment apart)
     ∙ step _ e.moment _ _ (u64-back e.moment t.moment) (step _ e.event _ _ back.read refl)

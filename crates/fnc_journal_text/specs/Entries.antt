@@ -6,7 +6,9 @@ use Rattle.fnc_journal.specs.declared.event.Event.{Event}
 use Rattle.fnc_journal_text.specs.declared.fault.EntryFault.{EntryFault}
 use Rattle.fnc_journal_text.specs.Cuts.{nth, parts, value}
 use Rattle.fnc_journal_text.specs.Reads.{◌>>=◌, each}
-use Rattle.fnc_journal_text.specs.Values.{u64_of, u32_of, u8_of, text_of, optional_of, flag_of, actions_of, check_of, kind_of, phase_of, exit_of, cause_of, scope_of, answer_of, target_of, cap_of, priority_of, pair_of, own_of, parameter_of, base_of, allowed_of}
+use Rattle.fnc_journal_text.specs.Values.{u64_of, u32_of, u8_of, text_of, optional_of, flag_of, actions_of, check_of}
+use Rattle.fnc_journal_text.specs.Values.{kind_of, phase_of, exit_of, cause_of, scope_of, answer_of, target_of}
+use Rattle.fnc_journal_text.specs.Values.{cap_of, priority_of, pair_of, own_of, parameter_of, base_of, allowed_of}
 
 -- the definition of a device
 abbrev pub definition_of : List (List ℕ) → Result Definition EntryFault
@@ -170,4 +172,7 @@ event_of verb ws =
 
 -- the entry of a line of these words
 abbrev pub entry_of : List (List ℕ) → Result Entry EntryFault
-entry_of ws = u64_of (nth ws 0) >>= λ moment. event_of (nth ws 1) ws >>= λ event. Ok (record { moment = moment; event = event })
+entry_of ws =
+    u64_of (nth ws 0) >>= λ moment.
+    event_of (nth ws 1) ws >>= λ event.
+    Ok (record { moment = moment; event = event })

@@ -1,5 +1,5 @@
--- The spelling of an entry: the words of its line, one space between them. Texts are escaped, numbers are decimal without
--- leading zeros, and no part of a line can be left out or stand elsewhere.
+-- The spelling of an entry: the words of its line, one space between them. Texts are escaped, numbers are decimal
+-- without leading zeros, and no part of a line can be left out or stand elsewhere.
 use Rattle.std.specs.Prelude.{ℕ, List, [], ◌∷◌, ◌++◌, Bool, if◌then◌else◌, Option, Some, None, codes, decimal, map}
 use Rattle.std.specs.Fmt.{signed_decimal}
 use Rattle.std.specs.List.{flat_map}
@@ -69,7 +69,9 @@ chosen has word words = if has then word ∷ words else words
 -- the actions that there are, in this order
 abbrev pub actions_words : Actions → List (List ℕ)
 actions_words a =
-    chosen a.on (codes "on") (chosen a.off (codes "off") (chosen a.reboot (codes "reboot") (chosen a.list (codes "list") (chosen a.status (codes "status") []))))
+    chosen a.on (codes "on")
+    (chosen a.off (codes "off")
+    (chosen a.reboot (codes "reboot") (chosen a.list (codes "list") (chosen a.status (codes "status") []))))
 
 -- they are separated by commas
 abbrev pub actions_text : Actions → List ℕ

@@ -1,5 +1,5 @@
--- What a journal's text can hold: names as they are read, and of a device only what options can define, each text and each
--- number by itself.
+-- What a journal's text can hold: names as they are read, and of a device only what options can define, each text and
+-- each number by itself.
 use Rattle.std.specs.Prelude.{ℕ, List, Bool, true, not, ◌&&◌, ◌==◌, nat_lt, nat_le, length}
 use Rattle.std.specs.List.{list_all, list_any}
 use Rattle.fnc_journal.specs.declared.definition.Definition.{Definition}

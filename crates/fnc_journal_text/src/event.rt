@@ -4,8 +4,9 @@ ghost use Rattle.std.specs.Prelude.{◌≤◌, OnOk, OnErr};
 ghost use Rattle.fnc_outside.specs.Faults.{Rose};
 ghost use Rattle.fnc_outside.specs.Told.{Gains};
 ghost use Rattle.fnc_outside.specs.Writes.{AppendsPart};
-ghost use Rattle.fnc_journal_text.specs.Spelled as Spelled;
-ghost use Rattle.fnc_journal_text.specs.Spelled.{spaced, words_of};
+ghost use Rattle.fnc_journal_text.specs.Spelled.{agent_words, ask_words, confirm_words, exit_words, gone_words};
+ghost use Rattle.fnc_journal_text.specs.Spelled.{level_gone_words, level_words, refused_words, reply_words};
+ghost use Rattle.fnc_journal_text.specs.Spelled.{spaced, start_words, words_of};
 
 use crate::definition::print_device;
 use crate::parts::{Part, print_parts};
@@ -44,8 +45,8 @@ pub(crate) fn print_event<K: Sink>(event: &Event, sink: &mut K) -> Result<(), Si
 
 /// Prints a registration that is gone.
 fn print_gone<K: Sink>(reg: Reg, sink: &mut K) -> Result<(), SinkFailed>
-    ensures ok { OnOk result (Gains (K.held sink.old) (K.held sink.new) (spaced (Spelled.gone_words reg))) }
-    ensures err { OnErr result (AppendsPart (K.held sink.old) (K.held sink.new) (spaced (Spelled.gone_words reg))) }
+    ensures ok { OnOk result (Gains (K.held sink.old) (K.held sink.new) (spaced (gone_words reg))) }
+    ensures err { OnErr result (AppendsPart (K.held sink.old) (K.held sink.new) (spaced (gone_words reg))) }
     ensures count { K.faults sink.old ≤ K.faults sink.new }
     ensures cause { OnErr result (Rose (K.faults sink.old) (K.faults sink.new)) }
 {
@@ -57,8 +58,8 @@ fn print_gone<K: Sink>(reg: Reg, sink: &mut K) -> Result<(), SinkFailed>
 
 /// Prints a request.
 fn print_ask<K: Sink>(request: &Request, sink: &mut K) -> Result<(), SinkFailed>
-    ensures ok { OnOk result (Gains (K.held sink.old) (K.held sink.new) (spaced (Spelled.ask_words request.now))) }
-    ensures err { OnErr result (AppendsPart (K.held sink.old) (K.held sink.new) (spaced (Spelled.ask_words request.now))) }
+    ensures ok { OnOk result (Gains (K.held sink.old) (K.held sink.new) (spaced (ask_words request.now))) }
+    ensures err { OnErr result (AppendsPart (K.held sink.old) (K.held sink.new) (spaced (ask_words request.now))) }
     ensures count { K.faults sink.old ≤ K.faults sink.new }
     ensures cause { OnErr result (Rose (K.faults sink.old) (K.faults sink.new)) }
 {
@@ -87,8 +88,8 @@ fn print_ask<K: Sink>(request: &Request, sink: &mut K) -> Result<(), SinkFailed>
 
 /// Prints a level and its devices.
 fn print_level<K: Sink>(level: &LevelSet, sink: &mut K) -> Result<(), SinkFailed>
-    ensures ok { OnOk result (Gains (K.held sink.old) (K.held sink.new) (spaced (Spelled.level_words level.now))) }
-    ensures err { OnErr result (AppendsPart (K.held sink.old) (K.held sink.new) (spaced (Spelled.level_words level.now))) }
+    ensures ok { OnOk result (Gains (K.held sink.old) (K.held sink.new) (spaced (level_words level.now))) }
+    ensures err { OnErr result (AppendsPart (K.held sink.old) (K.held sink.new) (spaced (level_words level.now))) }
     ensures count { K.faults sink.old ≤ K.faults sink.new }
     ensures cause { OnErr result (Rose (K.faults sink.old) (K.faults sink.new)) }
 {
@@ -109,8 +110,8 @@ fn print_level<K: Sink>(level: &LevelSet, sink: &mut K) -> Result<(), SinkFailed
 
 /// Prints a level that is gone.
 fn print_level_gone<K: Sink>(level: &LevelCleared, sink: &mut K) -> Result<(), SinkFailed>
-    ensures ok { OnOk result (Gains (K.held sink.old) (K.held sink.new) (spaced (Spelled.level_gone_words level.now))) }
-    ensures err { OnErr result (AppendsPart (K.held sink.old) (K.held sink.new) (spaced (Spelled.level_gone_words level.now))) }
+    ensures ok { OnOk result (Gains (K.held sink.old) (K.held sink.new) (spaced (level_gone_words level.now))) }
+    ensures err { OnErr result (AppendsPart (K.held sink.old) (K.held sink.new) (spaced (level_gone_words level.now))) }
     ensures count { K.faults sink.old ≤ K.faults sink.new }
     ensures cause { OnErr result (Rose (K.faults sink.old) (K.faults sink.new)) }
 {
@@ -129,8 +130,8 @@ fn print_level_gone<K: Sink>(level: &LevelCleared, sink: &mut K) -> Result<(), S
 
 /// Prints what is told of an agent.
 fn print_agent<K: Sink>(agent: &Described, sink: &mut K) -> Result<(), SinkFailed>
-    ensures ok { OnOk result (Gains (K.held sink.old) (K.held sink.new) (spaced (Spelled.agent_words agent.now))) }
-    ensures err { OnErr result (AppendsPart (K.held sink.old) (K.held sink.new) (spaced (Spelled.agent_words agent.now))) }
+    ensures ok { OnOk result (Gains (K.held sink.old) (K.held sink.new) (spaced (agent_words agent.now))) }
+    ensures err { OnErr result (AppendsPart (K.held sink.old) (K.held sink.new) (spaced (agent_words agent.now))) }
     ensures count { K.faults sink.old ≤ K.faults sink.new }
     ensures cause { OnErr result (Rose (K.faults sink.old) (K.faults sink.new)) }
 {
@@ -151,8 +152,8 @@ fn print_agent<K: Sink>(agent: &Described, sink: &mut K) -> Result<(), SinkFaile
 
 /// Prints how a run ended.
 fn print_exit<K: Sink>(ended: &Ended, sink: &mut K) -> Result<(), SinkFailed>
-    ensures ok { OnOk result (Gains (K.held sink.old) (K.held sink.new) (spaced (Spelled.exit_words ended.now))) }
-    ensures err { OnErr result (AppendsPart (K.held sink.old) (K.held sink.new) (spaced (Spelled.exit_words ended.now))) }
+    ensures ok { OnOk result (Gains (K.held sink.old) (K.held sink.new) (spaced (exit_words ended.now))) }
+    ensures err { OnErr result (AppendsPart (K.held sink.old) (K.held sink.new) (spaced (exit_words ended.now))) }
     ensures count { K.faults sink.old ≤ K.faults sink.new }
     ensures cause { OnErr result (Rose (K.faults sink.old) (K.faults sink.new)) }
 {
@@ -171,8 +172,8 @@ fn print_exit<K: Sink>(ended: &Ended, sink: &mut K) -> Result<(), SinkFailed>
 
 /// Prints that an operator confirms a node's state.
 fn print_confirm<K: Sink>(confirmation: &Confirmation, sink: &mut K) -> Result<(), SinkFailed>
-    ensures ok { OnOk result (Gains (K.held sink.old) (K.held sink.new) (spaced (Spelled.confirm_words confirmation.now))) }
-    ensures err { OnErr result (AppendsPart (K.held sink.old) (K.held sink.new) (spaced (Spelled.confirm_words confirmation.now))) }
+    ensures ok { OnOk result (Gains (K.held sink.old) (K.held sink.new) (spaced (confirm_words confirmation.now))) }
+    ensures err { OnErr result (AppendsPart (K.held sink.old) (K.held sink.new) (spaced (confirm_words confirmation.now))) }
     ensures count { K.faults sink.old ≤ K.faults sink.new }
     ensures cause { OnErr result (Rose (K.faults sink.old) (K.faults sink.new)) }
 {
@@ -189,8 +190,8 @@ fn print_confirm<K: Sink>(confirmation: &Confirmation, sink: &mut K) -> Result<(
 
 /// Prints why a line was refused.
 fn print_refused<K: Sink>(refusal: &Refusal, sink: &mut K) -> Result<(), SinkFailed>
-    ensures ok { OnOk result (Gains (K.held sink.old) (K.held sink.new) (spaced (Spelled.refused_words refusal.now))) }
-    ensures err { OnErr result (AppendsPart (K.held sink.old) (K.held sink.new) (spaced (Spelled.refused_words refusal.now))) }
+    ensures ok { OnOk result (Gains (K.held sink.old) (K.held sink.new) (spaced (refused_words refusal.now))) }
+    ensures err { OnErr result (AppendsPart (K.held sink.old) (K.held sink.new) (spaced (refused_words refusal.now))) }
     ensures count { K.faults sink.old ≤ K.faults sink.new }
     ensures cause { OnErr result (Rose (K.faults sink.old) (K.faults sink.new)) }
 {
@@ -207,8 +208,8 @@ fn print_refused<K: Sink>(refusal: &Refusal, sink: &mut K) -> Result<(), SinkFai
 
 /// Prints the start of a run.
 fn print_start<K: Sink>(start: &Start, sink: &mut K) -> Result<(), SinkFailed>
-    ensures ok { OnOk result (Gains (K.held sink.old) (K.held sink.new) (spaced (Spelled.start_words start.now))) }
-    ensures err { OnErr result (AppendsPart (K.held sink.old) (K.held sink.new) (spaced (Spelled.start_words start.now))) }
+    ensures ok { OnOk result (Gains (K.held sink.old) (K.held sink.new) (spaced (start_words start.now))) }
+    ensures err { OnErr result (AppendsPart (K.held sink.old) (K.held sink.new) (spaced (start_words start.now))) }
     ensures count { K.faults sink.old ≤ K.faults sink.new }
     ensures cause { OnErr result (Rose (K.faults sink.old) (K.faults sink.new)) }
 {
@@ -237,8 +238,8 @@ fn print_start<K: Sink>(start: &Start, sink: &mut K) -> Result<(), SinkFailed>
 
 /// Prints what a request is answered.
 fn print_reply<K: Sink>(reply: &Reply, sink: &mut K) -> Result<(), SinkFailed>
-    ensures ok { OnOk result (Gains (K.held sink.old) (K.held sink.new) (spaced (Spelled.reply_words reply.now))) }
-    ensures err { OnErr result (AppendsPart (K.held sink.old) (K.held sink.new) (spaced (Spelled.reply_words reply.now))) }
+    ensures ok { OnOk result (Gains (K.held sink.old) (K.held sink.new) (spaced (reply_words reply.now))) }
+    ensures err { OnErr result (AppendsPart (K.held sink.old) (K.held sink.new) (spaced (reply_words reply.now))) }
     ensures count { K.faults sink.old ≤ K.faults sink.new }
     ensures cause { OnErr result (Rose (K.faults sink.old) (K.faults sink.new)) }
 {

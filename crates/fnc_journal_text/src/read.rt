@@ -289,5 +289,6 @@ pub fn read_entry(alloc: Global, line: &[u8]) -> Result<Entry, EntryFault>
 
 /// No two entries within the bounds have the same line.
 pub fn spelled_once()
-    ensures { (d e : Entry) → IsTyped d → IsTrue (is_within d) → IsTyped e → IsTrue (is_within e) → line_of d ≡ line_of e → d ≡ e }
+    ensures { (d e : Entry) → IsTyped d → IsTrue (is_within d) → IsTyped e → IsTrue (is_within e)
+        → line_of d ≡ line_of e → d ≡ e }
 {}
