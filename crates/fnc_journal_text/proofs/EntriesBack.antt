@@ -1,15 +1,23 @@
 -- Each entry within the bounds is read back from its line.
-use Rattle.std.proofs.Common.{◌≡◌, ◌<◌, ◌≤◌, ◌^◌, ℕ, List, [], ◌∷◌, Bool, true, length, map, decimal, Ok, refl, ap, ◌∙◌, arith}
+use Rattle.std.proofs.Common.{◌≡◌, ◌<◌, ◌≤◌, ◌^◌, ℕ, List, [], ◌∷◌, Bool, true, length, map, decimal, Ok, refl, ap}
+use Rattle.std.proofs.Common.{◌∙◌, arith}
 use Rattle.std.specs.Prelude.{nat_lt, nat_le}
 use Rattle.std.specs.List.{list_all}
 use Rattle.std.proofs.lemmas.Bool.{and_parts, leb-true}
 use Rattle.fnc_journal.specs.declared.definition.Actions.{Actions}
 use Rattle.fnc_journal.specs.declared.definition.Definition.{Definition}
 use Rattle.fnc_journal.specs.declared.definition.Registration.{Registration}
+use Rattle.fnc_journal.specs.declared.limits.TheConstants.{
+  LONGEST_NAME,
+  MOST_DEVICES_OF_LEVEL,
+  MOST_HOSTS,
+  MOST_LEVELS_OF_TARGET,
+  MOST_OPTIONS,
+}
 use Rattle.fnc_journal.specs.declared.entry.Entry.{Entry}
 use Rattle.fnc_journal.specs.declared.event.Event.{Event}
+use Rattle.fnc_journal.specs.declared.event.Registered.{Registered}
 use Rattle.fnc_journal.specs.declared.entry.LevelTarget.{LevelTarget}
-use Rattle.fnc_journal.specs.declared.entry.Reg.{Reg}
 use Rattle.fnc_journal.specs.Line.{escaped}
 use Rattle.fnc_text.specs.Names.{is_name}
 use Rattle.fnc_journal.specs.Bounds as Bounds
@@ -21,8 +29,17 @@ use Rattle.fnc_journal_text.specs.Spelled.{line_of, words_of}
 use Rattle.fnc_journal_text.specs.Typed as Typed
 use Rattle.fnc_journal_text.proofs.Spellings.{has_byte, lacks, some-has}
 use Rattle.fnc_journal_text.proofs.Splits.{is_part, words-back}
-use Rattle.fnc_journal_text.proofs.ValuesBack.{step, u64-back, u32-back, u8-back, text-back, text-part, number-part, optional-back, optional-lacks, kind-back, kind-part, phase-back, phase-part, check-back, check-lacks, flag-back, flag-part, exit-back, exit-part, scope-back, scope-part, answer-back, answer-part, answered-part, target-back, target-part, cap-back, cap-lacks, priority-back, priority-lacks, cause-back, cause-part, actions-back, actions-lack}
-use Rattle.fnc_journal_text.proofs.ListsBack.{name-has, names-back, names-lack, names-has, hosts-back, map-back, map-lacks, own-part, owns-back, parameter-part, parameters-back, base-back, base-lacks, time-back, time-lacks, allowed-back, allowed-lacks}
+use Rattle.fnc_journal_text.proofs.ValuesBack.{step, u64-back, u32-back, u8-back, text-back, text-part, number-part}
+use Rattle.fnc_journal_text.proofs.ValuesBack.{optional-back, optional-lacks, kind-back, kind-part, phase-back}
+use Rattle.fnc_journal_text.proofs.ValuesBack.{phase-part, check-back, check-lacks, flag-back, flag-part, exit-back}
+use Rattle.fnc_journal_text.proofs.ValuesBack.{exit-part, scope-back, scope-part, answer-back, answer-part}
+use Rattle.fnc_journal_text.proofs.ValuesBack.{answered-part, target-back, target-part, cap-back, cap-lacks}
+use Rattle.fnc_journal_text.proofs.ValuesBack.{priority-back, priority-lacks, cause-back, cause-part, actions-back}
+use Rattle.fnc_journal_text.proofs.ValuesBack.{actions-lack}
+use Rattle.fnc_journal_text.proofs.ListsBack.{name-has, names-back, names-lack, names-has, hosts-back, map-back}
+use Rattle.fnc_journal_text.proofs.ListsBack.{map-lacks, own-part, owns-back, parameter-part, parameters-back}
+use Rattle.fnc_journal_text.proofs.ListsBack.{base-back, base-lacks, time-back, time-lacks, allowed-back}
+use Rattle.fnc_journal_text.proofs.ListsBack.{allowed-lacks}
 
 -- words that are told apart
 abbrev AreApart : List (List ℕ) → Type 0
@@ -36,7 +53,8 @@ told_apart : (ws : List (List ℕ)) → AreApart ws → list_all (is_part 32) ws
 told_apart [] h = refl
 told_apart (w ∷ ws) h = rw (h.0, told_apart ws h.1) refl
 
-each-part : {X : Type 0} (word : X → List ℕ) (p : X → Bool) → ((x : X) → p x ≡ true → is_part 32 (word x) ≡ true) → (xs : List X) → list_all p xs ≡ true → AreApart (map word xs)
+each-part : {X : Type 0} (word : X → List ℕ) (p : X → Bool) → ((x : X) → p x ≡ true → is_part 32 (word x) ≡ true) →
+    (xs : List X) → list_all p xs ≡ true → AreApart (map word xs)
 each-part word p f [] h = tt
 each-part word p f (x ∷ xs) h = let two = and_parts (p x) (list_all p xs) h in (f x two.0, each-part word p f xs two.1)
 
@@ -51,17 +69,22 @@ name-part name b t = text-part 32 name refl (name-has name b) t
 
 target-has : (t : LevelTarget) → Within.is_target t ≡ true → has_byte (Spelled.target_text t) ≡ true
 target-has (LevelTarget.Name name) b = name-has name b
-target-has (LevelTarget.Pattern pattern) b = some-has pattern (and_parts (nat_lt 0 (length pattern)) (nat_le (length pattern) 255) b).0
+target-has (LevelTarget.Pattern pattern) b =
+    some-has pattern (and_parts (nat_lt 0 (length pattern)) (nat_le (length pattern) LONGEST_NAME) b).0
 
 target-characters : (t : LevelTarget) → Typed.is_target t ≡ true → Typed.are_characters (Spelled.target_text t) ≡ true
 target-characters (LevelTarget.Name name) t = t
 target-characters (LevelTarget.Pattern pattern) t = t
 
-targeted-part : (t : LevelTarget) → Within.is_target t ≡ true → Typed.is_target t ≡ true → is_part 32 (escaped (Spelled.target_text t)) ≡ true
+targeted-part : (t : LevelTarget) → Within.is_target t ≡ true → Typed.is_target t ≡ true →
+    is_part 32 (escaped (Spelled.target_text t)) ≡ true
 targeted-part t b k = text-part 32 (Spelled.target_text t) refl (target-has t b) (target-characters t k)
 
 index-fits : (index : ℕ) → Within.is_index index ≡ true → index < 2 ^ 8
-index-fits index b = let small : index ≤ 9 = leb-true index 9 (and_parts (nat_lt 0 index) (nat_le index 9) b).1 in omega (arith, small)
+index-fits index b =
+    let most = MOST_LEVELS_OF_TARGET in
+    let small : index ≤ 9 = leb-true index most (and_parts (nat_lt 0 index) (nat_le index most) b).1 in
+    omega (arith, small)
 
 -- a definition
 record AreNodes (d : Definition) : Type 0 where
@@ -72,7 +95,7 @@ are_nodes : (d : Definition) → Within.are_nodes d ≡ true → AreNodes d
 are_nodes d b =
     let five = and_parts _ (Bounds.is_carrier d.argument) b in
     let four = and_parts _ (list_all Bounds.is_host_pair d.map) five.0 in
-    let three = and_parts _ (nat_le (length d.map) 256) four.0 in
+    let three = and_parts _ (nat_le (length d.map) MOST_HOSTS) four.0 in
     let two = and_parts _ (list_all Bounds.is_host d.hosts) three.0 in
     record { hosts = two.1; argument = five.1 }
 
@@ -86,7 +109,7 @@ record AreLimits (d : Definition) : Type 0 where
 are_limits : (d : Definition) → Within.are_limits d ≡ true → AreLimits d
 are_limits d b =
     let six = and_parts _ (list_all Bounds.is_own_option d.own) b in
-    let five = and_parts _ (nat_le (length d.own) 32) six.0 in
+    let five = and_parts _ (nat_le (length d.own) MOST_OPTIONS) six.0 in
     let four = and_parts _ (Bounds.is_time d.keep) five.0 in
     let three = and_parts _ (Bounds.is_time d.max) four.0 in
     let two = and_parts _ (Bounds.is_base d.base) three.0 in
@@ -122,8 +145,10 @@ are_bounds d b =
 actions-lacking : (a : Actions) → lacks 32 (Spelled.actions_text a) ≡ true
 actions-lacking a = actions-lack a.on a.off a.reboot a.list a.status
 
-limits-part : (d : Definition) → AreBounds d → Typed.IsDefinition d → AreApart (Spelled.limits_words d)
-limits-part d b t =
+limits-part : (device : Registered) → AreBounds device.registration.definition →
+    Typed.IsDefinition device.registration.definition → AreApart (Spelled.limits_words device)
+limits-part device b t =
+    let d = device.registration.definition in
     with (cap-lacks d.cap b.limits.cap)
     (with (priority-lacks d.priority b.limits.priority)
     (with (base-lacks d.base b.limits.base t.base)
@@ -146,13 +171,16 @@ is_bounded : (r : Registration) → Within.is_device r ≡ true → IsBoundedDev
 is_bounded r b =
     let two = and_parts _ (Within.is_bounded r.definition) b in
     let one = and_parts (is_name r.name) (Within.is_agent_name r.agent) two.0 in
-    record { name = one.0; agent = (and_parts (is_name r.agent) _ one.1).0; definition = are_bounds r.definition two.1 }
+    let agent = and_parts (is_name r.agent) _ one.1 in
+    record { name = one.0; agent = agent.0; definition = are_bounds r.definition two.1 }
 
-device-part : (reg : Reg) (r : Registration) → reg.0 < 2 ^ 32 → IsBoundedDevice r → Typed.IsDevice r → AreApart (Spelled.device_words reg r)
-device-part reg r h b t =
+device-part : (device : Registered) → device.reg.0 < 2 ^ 32 → IsBoundedDevice device.registration →
+    Typed.IsDevice device.registration → AreApart (Spelled.device_words device)
+device-part device h b t =
+    let r = device.registration in
     let d = r.definition in
     with refl
-    (with (u32-part reg.0 h)
+    (with (u32-part device.reg.0 h)
     (with (name-part r.name b.name t.name)
     (with (name-part r.agent b.agent t.agent)
     (with (actions-lacking d.actions)
@@ -160,12 +188,13 @@ device-part reg r h b t =
     (with (names-lack d.hosts t.definition.hosts)
     (with (map-lacks d.map t.definition.map)
     (with (optional-lacks 32 d.argument refl t.definition.argument)
-    (limits-part d b.definition t.definition)))))))))
+    (limits-part device b.definition t.definition)))))))))
 
-definition-back : (m : List ℕ) (reg : Reg) (r : Registration) → AreBounds r.definition → Typed.IsDefinition r.definition →
-    definition_of (m ∷ Spelled.device_words reg r) ≡ Ok r.definition
-definition-back m reg r b t =
-    let d = r.definition in
+definition-back : (m : List ℕ) (device : Registered) → AreBounds device.registration.definition →
+    Typed.IsDefinition device.registration.definition →
+    definition_of (m ∷ Spelled.device_words device) ≡ Ok device.registration.definition
+definition-back m device b t =
+    let d = device.registration.definition in
     step _ d.check _ _ (check-back d.check)
     (step _ d.hosts _ _ (hosts-back d.hosts b.nodes.hosts t.hosts)
     (step _ d.map _ _ (map-back d.map t.map)
@@ -208,135 +237,162 @@ record IsBack (m : List ℕ) (event : Event) : Type 0 where
   read : event_of (nth (m ∷ words_of event) 1) (m ∷ words_of event) ≡ Ok event
 
 event-back : (m : List ℕ) (event : Event) → Typed.IsEvent event → Within.is_event event ≡ true → IsBack m event
-event-back m (Event.Device device_) t b =
-    let bounds = is_bounded device_.registration b in
+event-back m (Event.Device device) t b =
+    let r = device.registration in
+    let bounds = is_bounded r b in
     record {
-      apart = device-part device_.reg device_.registration t.0 bounds t.1;
+      apart = device-part device t.0 bounds t.1;
       read =
-          step _ device_.reg.0 _ _ (u32-back device_.reg.0 t.0)
-          (step _ device_.registration.name _ _ (text-back device_.registration.name t.1.name)
-          (step _ device_.registration.agent _ _ (text-back device_.registration.agent t.1.agent)
-          (step _ device_.registration.definition _ _ (definition-back m device_.reg device_.registration bounds.definition t.1.definition) refl)));
+          step _ device.reg.0 _ _ (u32-back device.reg.0 t.0)
+          (step _ r.name _ _ (text-back r.name t.1.name)
+          (step _ r.agent _ _ (text-back r.agent t.1.agent)
+          (step _ r.definition _ _ (definition-back m device bounds.definition t.1.definition) refl)));
     }
 event-back m (Event.Gone reg) t b =
     record {
       apart = with refl (with (u32-part reg.0 t) tt);
       read = step _ reg.0 _ _ (u32-back reg.0 t) refl;
     }
-event-back m (Event.Level set) t b =
-    let four = and_parts _ (list_all is_name set.devices) b in
-    let three = and_parts _ (nat_le (length set.devices) 8) four.0 in
-    let two = and_parts _ (nat_lt 0 (length set.devices)) three.0 in
-    let one = and_parts (Within.is_index set.index) (Within.is_target set.target) two.0 in
-    let fits = index-fits set.index one.0 in
+event-back m (Event.Level level) t b =
+    let four = and_parts _ (list_all is_name level.devices) b in
+    let three = and_parts _ (nat_le (length level.devices) MOST_DEVICES_OF_LEVEL) four.0 in
+    let two = and_parts _ (nat_lt 0 (length level.devices)) three.0 in
+    let one = and_parts (Within.is_index level.index) (Within.is_target level.target) two.0 in
+    let fits = index-fits level.index one.0 in
     record {
       apart =
           with refl
-          (with (u8-part set.index fits)
-          (with (target-part set.target)
-          (with (targeted-part set.target one.1 t.0)
-          (with (rw (names-has set.devices two.1 four.1, names-lack set.devices t.1) refl) tt))));
+          (with (u8-part level.index fits)
+          (with (target-part level.target)
+          (with (targeted-part level.target one.1 t.0)
+          (with (rw (names-has level.devices two.1 four.1, names-lack level.devices t.1) refl) tt))));
       read =
-          step _ set.index _ _ (u8-back set.index fits)
-          (step _ set.target _ _ (target-back set.target t.0)
-          (step _ set.devices _ _ (names-back set.devices four.1 t.1) refl));
+          step _ level.index _ _ (u8-back level.index fits)
+          (step _ level.target _ _ (target-back level.target t.0)
+          (step _ level.devices _ _ (names-back level.devices four.1 t.1) refl));
     }
-event-back m (Event.LevelGone cleared) t b =
-    let one = and_parts (Within.is_index cleared.index) (Within.is_target cleared.target) b in
-    let fits = index-fits cleared.index one.0 in
-    record {
-      apart = with refl (with (u8-part cleared.index fits) (with (target-part cleared.target) (with (targeted-part cleared.target one.1 t) tt)));
-      read = step _ cleared.index _ _ (u8-back cleared.index fits) (step _ cleared.target _ _ (target-back cleared.target t) refl);
-    }
-event-back m (Event.Agent described) t b =
-    let one = and_parts (Within.is_agent_name described.name) (Within.is_described described.description) b in
-    let carrier = (and_parts _ (Bounds.is_carrier described.description.target) one.1).1 in
+event-back m (Event.LevelGone level) t b =
+    let one = and_parts (Within.is_index level.index) (Within.is_target level.target) b in
+    let fits = index-fits level.index one.0 in
     record {
       apart =
           with refl
-          (with (name-part described.name (and_parts (is_name described.name) _ one.0).0 t.name)
-          (with (actions-lacking described.description.actions)
-          (with (optional-lacks 32 described.description.target refl t.target) (each-part Spelled.parameter_word Typed.is_parameter parameter-part described.description.parameters t.parameters))));
+          (with (u8-part level.index fits)
+          (with (target-part level.target) (with (targeted-part level.target one.1 t) tt)));
       read =
-          step _ described.name _ _ (text-back described.name t.name)
-          (step _ described.description.target _ _ (optional-back described.description.target carrier t.target)
-          (step _ described.description.parameters _ _ (parameters-back described.description.parameters t.parameters)
-          (ap (λ (actions : Actions). Ok (Event.Agent (record { name = described.name; description = record { actions = actions; parameters = described.description.parameters; target = described.description.target } })))
-          (actions-back described.description.actions.on described.description.actions.off described.description.actions.reboot described.description.actions.list described.description.actions.status))));
+          step _ level.index _ _ (u8-back level.index fits)
+          (step _ level.target _ _ (target-back level.target t) refl);
     }
-event-back m (Event.Ask ask) t b =
-    let names = and_parts (is_name ask.client) (is_name ask.target) b in
+event-back m (Event.Agent agent) t b =
+    let d = agent.description in
+    let one = and_parts (Within.is_agent_name agent.name) (Within.is_described d) b in
+    let carrier = (and_parts _ (Bounds.is_carrier d.target) one.1).1 in
     record {
       apart =
           with refl
-          (with (u32-part ask.req.0 t.0)
-          (with (u32-part ask.lead.0 t.1.0)
-          (with (name-part ask.client names.0 t.1.1.0)
-          (with (kind-part ask.kind)
-          (with (name-part ask.target names.1 t.1.1.1.0)
-          (with (number-part 32 ask.total refl t.1.1.1.1.0)
-          (with (number-part 32 ask.coin refl t.1.1.1.1.1.0)
-          (with (scope-part ask.scope t.1.1.1.1.1.1) tt))))))));
+          (with (name-part agent.name (and_parts (is_name agent.name) _ one.0).0 t.name)
+          (with (actions-lacking d.actions)
+          (with (optional-lacks 32 d.target refl t.target)
+          (each-part Spelled.parameter_word Typed.is_parameter parameter-part d.parameters t.parameters))));
       read =
-          step _ ask.req.0 _ _ (u32-back ask.req.0 t.0)
-          (step _ ask.lead.0 _ _ (u32-back ask.lead.0 t.1.0)
-          (step _ ask.client _ _ (text-back ask.client t.1.1.0)
-          (step _ ask.kind _ _ (kind-back ask.kind)
-          (step _ ask.target _ _ (text-back ask.target t.1.1.1.0)
-          (step _ ask.total _ _ (u64-back ask.total t.1.1.1.1.0)
-          (step _ ask.coin _ _ (u64-back ask.coin t.1.1.1.1.1.0)
-          (step _ ask.scope _ _ (scope-back ask.scope t.1.1.1.1.1.1) refl)))))));
+          step _ agent.name _ _ (text-back agent.name t.name)
+          (step _ d.target _ _ (optional-back d.target carrier t.target)
+          (step _ d.parameters _ _ (parameters-back d.parameters t.parameters)
+          (ap (λ (actions : Actions).
+          Ok (Event.Agent (record {
+            name = agent.name;
+            description = record { actions = actions; parameters = d.parameters; target = d.target };
+          })))
+          (actions-back d.actions.on d.actions.off d.actions.reboot d.actions.list d.actions.status))));
+    }
+event-back m (Event.Ask request) t b =
+    let names = and_parts (is_name request.client) (is_name request.target) b in
+    record {
+      apart =
+          with refl
+          (with (u32-part request.req.0 t.req)
+          (with (u32-part request.lead.0 t.lead)
+          (with (name-part request.client names.0 t.client)
+          (with (kind-part request.kind)
+          (with (name-part request.target names.1 t.target)
+          (with (number-part 32 request.total refl t.total)
+          (with (number-part 32 request.coin refl t.coin)
+          (with (scope-part request.scope t.scope) tt))))))));
+      read =
+          step _ request.req.0 _ _ (u32-back request.req.0 t.req)
+          (step _ request.lead.0 _ _ (u32-back request.lead.0 t.lead)
+          (step _ request.client _ _ (text-back request.client t.client)
+          (step _ request.kind _ _ (kind-back request.kind)
+          (step _ request.target _ _ (text-back request.target t.target)
+          (step _ request.total _ _ (u64-back request.total t.total)
+          (step _ request.coin _ _ (u64-back request.coin t.coin)
+          (step _ request.scope _ _ (scope-back request.scope t.scope) refl)))))));
     }
 event-back m (Event.Exit ended) t b =
     record {
-      apart = with refl (with (u32-part ended.run.0 t.0) (with (exit-part ended.exit t.1) (with (flag-part ended.listed) tt)));
+      apart =
+          with refl
+          (with (u32-part ended.run.0 t.0) (with (exit-part ended.exit t.1) (with (flag-part ended.listed) tt)));
       read =
           step _ ended.run.0 _ _ (u32-back ended.run.0 t.0)
-          (step _ ended.exit _ _ (exit-back ended.exit t.1) (ap (λ (flag : Bool). Ok (Event.Exit (record { run = ended.run; exit = ended.exit; listed = flag }))) (flag-back ended.listed)));
+          (step _ ended.exit _ _ (exit-back ended.exit t.1)
+          (ap (λ (flag : Bool). Ok (Event.Exit (record { run = ended.run; exit = ended.exit; listed = flag })))
+          (flag-back ended.listed)));
     }
 event-back m Event.Pass t b = record { apart = (refl, tt); read = refl }
 event-back m (Event.Confirm confirmation) t b =
-    let names = and_parts (is_name confirmation.client) (is_name confirmation.target) b in
+    let client = confirmation.client in
+    let target = confirmation.target in
+    let names = and_parts (is_name client) (is_name target) b in
     record {
-      apart = with refl (with (name-part confirmation.client names.0 t.0) (with (name-part confirmation.target names.1 t.1) tt));
-      read = step _ confirmation.client _ _ (text-back confirmation.client t.0) (step _ confirmation.target _ _ (text-back confirmation.target t.1) refl);
+      apart = with refl (with (name-part client names.0 t.0) (with (name-part target names.1 t.1) tt));
+      read = step _ client _ _ (text-back client t.0) (step _ target _ _ (text-back target t.1) refl);
     }
 event-back m (Event.Refused refusal) t b =
     record {
       apart = with refl (with (u32-part refusal.line t) (with (cause-part refusal.cause) tt));
-      read = step _ refusal.line _ _ (u32-back refusal.line t) (step _ refusal.cause _ _ (cause-back refusal.cause) refl);
+      read =
+          step _ refusal.line _ _ (u32-back refusal.line t)
+          (step _ refusal.cause _ _ (cause-back refusal.cause) refl);
     }
 event-back m (Event.Start start) t b =
     record {
       apart =
           with refl
-          (with (u32-part start.run.0 t.0)
-          (with (u32-part start.req.0 t.1.0)
+          (with (u32-part start.run.0 t.run)
+          (with (u32-part start.req.0 t.req)
           (with (phase-part start.slot.phase)
-          (with (u8-part start.slot.level t.1.1.0)
-          (with (u8-part start.slot.place t.1.1.1.0)
-          (with (u32-part start.reg.0 t.1.1.1.1.0)
+          (with (u8-part start.slot.level t.level)
+          (with (u8-part start.slot.place t.place)
+          (with (u32-part start.reg.0 t.reg)
           (with (kind-part start.kind)
-          (with (u8-part start.attempt t.1.1.1.1.1) tt))))))));
+          (with (u8-part start.attempt t.attempt) tt))))))));
       read =
-          step _ start.run.0 _ _ (u32-back start.run.0 t.0)
-          (step _ start.req.0 _ _ (u32-back start.req.0 t.1.0)
+          step _ start.run.0 _ _ (u32-back start.run.0 t.run)
+          (step _ start.req.0 _ _ (u32-back start.req.0 t.req)
           (step _ start.slot.phase _ _ (phase-back start.slot.phase)
-          (step _ start.slot.level _ _ (u8-back start.slot.level t.1.1.0)
-          (step _ start.slot.place _ _ (u8-back start.slot.place t.1.1.1.0)
-          (step _ start.reg.0 _ _ (u32-back start.reg.0 t.1.1.1.1.0)
+          (step _ start.slot.level _ _ (u8-back start.slot.level t.level)
+          (step _ start.slot.place _ _ (u8-back start.slot.place t.place)
+          (step _ start.reg.0 _ _ (u32-back start.reg.0 t.reg)
           (step _ start.kind _ _ (kind-back start.kind)
-          (step _ start.attempt _ _ (u8-back start.attempt t.1.1.1.1.1) refl)))))));
+          (step _ start.attempt _ _ (u8-back start.attempt t.attempt) refl)))))));
     }
 event-back m (Event.Reply reply) t b =
     record {
-      apart = with refl (with (u32-part reply.req.0 t.0) (with (answer-part reply.answer) (with (answered-part reply.answer t.1) tt)));
-      read = step _ reply.req.0 _ _ (u32-back reply.req.0 t.0) (step _ reply.answer _ _ (answer-back reply.answer t.1) refl);
+      apart =
+          with refl
+          (with (u32-part reply.req.0 t.0)
+          (with (answer-part reply.answer) (with (answered-part reply.answer t.1) tt)));
+      read =
+          step _ reply.req.0 _ _ (u32-back reply.req.0 t.0)
+          (step _ reply.answer _ _ (answer-back reply.answer t.1) refl);
     }
 
 -- what the line of an entry is read as
 pub entry-back : (e : Entry) → Typed.IsTyped e → Within.is_within e ≡ true → entry_of (words (line_of e)) ≡ Ok e
 entry-back e t b =
     let back = event-back (decimal e.moment) e.event t.event b in
-    ap entry_of (words-back (decimal e.moment) (words_of e.event) (number-part 32 e.moment refl t.moment) (told_apart (words_of e.event) back.apart))
+    let moment = number-part 32 e.moment refl t.moment in
+    let apart = told_apart (words_of e.event) back.apart in
+    ap entry_of (words-back (decimal e.moment) (words_of e.event) moment apart)
     ∙ step _ e.moment _ _ (u64-back e.moment t.moment) (step _ e.event _ _ back.read refl)

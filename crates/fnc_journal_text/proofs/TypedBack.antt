@@ -251,19 +251,16 @@ module _ (ws : List (List ℕ)) (event : Event) where
       let total = succeeds (Values.u64_of (nth ws 7)) _ event target.rest in
       let coin = succeeds (Values.u64_of (nth ws 8)) _ event total.rest in
       let scope = succeeds (Values.scope_of (nth ws 9)) _ event coin.rest in
-      subst Typed.IsEvent (same scope.rest) (
-        u32-typed (nth ws 2) req.value req.got,
-        (
-          u32-typed (nth ws 3) lead.value lead.got,
-          (
-            text-typed (nth ws 4) client.value client.got,
-            (
-              text-typed (nth ws 6) target.value target.got,
-              (u64-typed (nth ws 7) total.value total.got, (u64-typed (nth ws 8) coin.value coin.got, scope-typed (nth ws 9) scope.value scope.got)),
-            ),
-          ),
-        ),
-      )
+      subst Typed.IsEvent (same scope.rest)
+      (record {
+        req = u32-typed (nth ws 2) req.value req.got;
+        lead = u32-typed (nth ws 3) lead.value lead.got;
+        client = text-typed (nth ws 4) client.value client.got;
+        target = text-typed (nth ws 6) target.value target.got;
+        total = u64-typed (nth ws 7) total.value total.got;
+        coin = u64-typed (nth ws 8) coin.value coin.got;
+        scope = scope-typed (nth ws 9) scope.value scope.got;
+      })
 
   exited-typed : Entries.exited_of ws ≡ Ok event → Typed.IsEvent event
   exited-typed h =
@@ -293,19 +290,15 @@ module _ (ws : List (List ℕ)) (event : Event) where
       let reg = succeeds (Values.u32_of (nth ws 7)) _ event place.rest in
       let kind = succeeds (Values.kind_of (nth ws 8)) _ event reg.rest in
       let attempt = succeeds (Values.u8_of (nth ws 9)) _ event kind.rest in
-      subst Typed.IsEvent (same attempt.rest) (
-        u32-typed (nth ws 2) run.value run.got,
-        (
-          u32-typed (nth ws 3) req.value req.got,
-          (
-            u8-typed (nth ws 5) level.value level.got,
-            (
-              u8-typed (nth ws 6) place.value place.got,
-              (u32-typed (nth ws 7) reg.value reg.got, u8-typed (nth ws 9) attempt.value attempt.got),
-            ),
-          ),
-        ),
-      )
+      subst Typed.IsEvent (same attempt.rest)
+      (record {
+        run = u32-typed (nth ws 2) run.value run.got;
+        req = u32-typed (nth ws 3) req.value req.got;
+        level = u8-typed (nth ws 5) level.value level.got;
+        place = u8-typed (nth ws 6) place.value place.got;
+        reg = u32-typed (nth ws 7) reg.value reg.got;
+        attempt = u8-typed (nth ws 9) attempt.value attempt.got;
+      })
 
   reply-typed : Entries.reply_of ws ≡ Ok event → Typed.IsEvent event
   reply-typed h =

@@ -6,7 +6,9 @@ use Rattle.fnc_journal.specs.declared.event.Event.{Event}
 use Rattle.fnc_journal_text.specs.declared.fault.EntryFault.{EntryFault}
 use Rattle.fnc_journal_text.specs.Cuts.{nth, parts, value}
 use Rattle.fnc_journal_text.specs.Reads.{◌>>=◌, each}
-use Rattle.fnc_journal_text.specs.Values.{u64_of, u32_of, u8_of, text_of, optional_of, flag_of, actions_of, check_of, kind_of, phase_of, exit_of, cause_of, scope_of, answer_of, target_of, cap_of, priority_of, pair_of, own_of, parameter_of, base_of, allowed_of}
+use Rattle.fnc_journal_text.specs.Values.{u64_of, u32_of, u8_of, text_of, optional_of, flag_of, actions_of, check_of}
+use Rattle.fnc_journal_text.specs.Values.{kind_of, phase_of, exit_of, cause_of, scope_of, answer_of, target_of}
+use Rattle.fnc_journal_text.specs.Values.{cap_of, priority_of, pair_of, own_of, parameter_of, base_of, allowed_of}
 
 -- the definition of a device
 abbrev pub definition_of : List (List ℕ) → Result Definition EntryFault
@@ -51,7 +53,10 @@ device_of ws =
     text_of (nth ws 3) >>= λ name.
     text_of (nth ws 4) >>= λ agent.
     definition_of ws >>= λ definition.
-    Ok (Event.Device (record { reg = record { 0 = reg }; registration = record { name = name; agent = agent; definition = definition } }))
+    Ok (Event.Device (record {
+      reg = record { 0 = reg };
+      registration = record { name = name; agent = agent; definition = definition };
+    }))
 
 abbrev pub gone_of : List (List ℕ) → Result Event EntryFault
 gone_of ws = u32_of (nth ws 2) >>= λ reg. Ok (Event.Gone (record { 0 = reg }))
@@ -61,18 +66,23 @@ level_of ws =
     u8_of (nth ws 2) >>= λ index.
     target_of (nth ws 3) (nth ws 4) >>= λ target.
     each text_of (parts 44 (nth ws 5)) >>= λ devices.
-    Ok (Event.Level set)
+    Ok (Event.Level (record { target = target; index = index; devices = devices }))
 
 abbrev pub level_gone_of : List (List ℕ) → Result Event EntryFault
 level_gone_of ws =
-    u8_of (nth ws 2) >>= λ index. target_of (nth ws 3) (nth ws 4) >>= λ target. Ok (Event.LevelGone cleared)
+    u8_of (nth ws 2) >>= λ index.
+    target_of (nth ws 3) (nth ws 4) >>= λ target.
+    Ok (Event.LevelGone (record { target = target; index = index }))
 
 abbrev pub agent_of : List (List ℕ) → Result Event EntryFault
 agent_of ws =
     text_of (nth ws 2) >>= λ name.
     optional_of (value ws 4) >>= λ target.
     each parameter_of (drop 5 ws) >>= λ parameters.
-    Ok (Event.Agent (record { name = name; description = record { actions = actions_of (value ws 3); parameters = parameters; target = target } }))
+    Ok (Event.Agent (record {
+      name = name;
+      description = record { actions = actions_of (value ws 3); parameters = parameters; target = target };
+    }))
 
 abbrev pub ask_of : List (List ℕ) → Result Event EntryFault
 ask_of ws =
@@ -84,17 +94,34 @@ ask_of ws =
     u64_of (nth ws 7) >>= λ total.
     u64_of (nth ws 8) >>= λ coin.
     scope_of (nth ws 9) >>= λ scope.
-    Ok (Event.Ask (record { req = record { 0 = req }; lead = record { 0 = lead }; client = client; kind = kind; target = target; total = total; coin = coin; scope = scope }))
+    Ok (Event.Ask (record {
+      req = record { 0 = req };
+      lead = record { 0 = lead };
+      client = client;
+      kind = kind;
+      target = target;
+      total = total;
+      coin = coin;
+      scope = scope;
+    }))
 
 abbrev pub exited_of : List (List ℕ) → Result Event EntryFault
 exited_of ws =
-    u32_of (nth ws 2) >>= λ run. exit_of (nth ws 3) >>= λ exit. Ok (Event.Exit (record { run = record { 0 = run }; exit = exit; listed = flag_of (nth ws 4) }))
+    u32_of (nth ws 2) >>= λ run.
+    exit_of (nth ws 3) >>= λ exit.
+    Ok (Event.Exit (record { run = record { 0 = run }; exit = exit; listed = flag_of (nth ws 4) }))
 
 abbrev pub confirm_of : List (List ℕ) → Result Event EntryFault
-confirm_of ws = text_of (nth ws 2) >>= λ client. text_of (nth ws 3) >>= λ target. Ok (Event.Confirm (record { client = client; target = target }))
+confirm_of ws =
+    text_of (nth ws 2) >>= λ client.
+    text_of (nth ws 3) >>= λ target.
+    Ok (Event.Confirm (record { client = client; target = target }))
 
 abbrev pub refused_of : List (List ℕ) → Result Event EntryFault
-refused_of ws = u32_of (nth ws 2) >>= λ line. cause_of (nth ws 3) >>= λ cause. Ok (Event.Refused (record { line = line; cause = cause }))
+refused_of ws =
+    u32_of (nth ws 2) >>= λ line.
+    cause_of (nth ws 3) >>= λ cause.
+    Ok (Event.Refused (record { line = line; cause = cause }))
 
 abbrev pub start_of : List (List ℕ) → Result Event EntryFault
 start_of ws =
@@ -106,10 +133,20 @@ start_of ws =
     u32_of (nth ws 7) >>= λ reg.
     kind_of (nth ws 8) >>= λ kind.
     u8_of (nth ws 9) >>= λ attempt.
-    Ok (Event.Start (record { run = record { 0 = run }; req = record { 0 = req }; slot = record { phase = phase; level = level; place = place }; reg = record { 0 = reg }; kind = kind; attempt = attempt }))
+    Ok (Event.Start (record {
+      run = record { 0 = run };
+      req = record { 0 = req };
+      slot = record { phase = phase; level = level; place = place };
+      reg = record { 0 = reg };
+      kind = kind;
+      attempt = attempt;
+    }))
 
 abbrev pub reply_of : List (List ℕ) → Result Event EntryFault
-reply_of ws = u32_of (nth ws 2) >>= λ req. answer_of (nth ws 3) (nth ws 4) >>= λ answer. Ok (Event.Reply (record { req = record { 0 = req }; answer = answer }))
+reply_of ws =
+    u32_of (nth ws 2) >>= λ req.
+    answer_of (nth ws 3) (nth ws 4) >>= λ answer.
+    Ok (Event.Reply (record { req = record { 0 = req }; answer = answer }))
 
 -- an event that changes what is configured, by its verb
 abbrev pub configured_of : List ℕ → List (List ℕ) → Result Event EntryFault
@@ -135,4 +172,7 @@ event_of verb ws =
 
 -- the entry of a line of these words
 abbrev pub entry_of : List (List ℕ) → Result Entry EntryFault
-entry_of ws = u64_of (nth ws 0) >>= λ moment. event_of (nth ws 1) ws >>= λ event. Ok (record { moment = moment; event = event })
+entry_of ws =
+    u64_of (nth ws 0) >>= λ moment.
+    event_of (nth ws 1) ws >>= λ event.
+    Ok (record { moment = moment; event = event })

@@ -1,30 +1,32 @@
--- The spelling of an entry: the words of its line, one space between them. Texts are escaped, numbers are decimal without
--- leading zeros, and no part of a line can be left out or stand elsewhere.
+-- The spelling of an entry: the words of its line, one space between them. Texts are escaped, numbers are decimal
+-- without leading zeros, and no part of a line can be left out or stand elsewhere.
 use Rattle.std.specs.Prelude.{ℕ, List, [], ◌∷◌, ◌++◌, Bool, if◌then◌else◌, Option, Some, None, codes, decimal, map}
 use Rattle.std.specs.Fmt.{signed_decimal}
 use Rattle.std.specs.List.{flat_map}
-use Rattle.fnc_journal.specs.declared.cause.Cause.{Cause}
 use Rattle.fnc_journal.specs.declared.definition.Actions.{Actions}
 use Rattle.fnc_journal.specs.declared.definition.Allowed.{Allowed}
 use Rattle.fnc_journal.specs.declared.definition.Base.{Base}
-use Rattle.fnc_journal.specs.declared.definition.Definition.{Definition}
 use Rattle.fnc_journal.specs.declared.definition.Delay.{Delay}
-use Rattle.fnc_journal.specs.declared.definition.Description.{Description}
 use Rattle.fnc_journal.specs.declared.definition.HostCheck.{HostCheck}
 use Rattle.fnc_journal.specs.declared.definition.Parameter.{Parameter}
-use Rattle.fnc_journal.specs.declared.definition.Registration.{Registration}
 use Rattle.fnc_journal.specs.declared.entry.Answer.{Answer}
 use Rattle.fnc_journal.specs.declared.entry.Entry.{Entry}
+use Rattle.fnc_journal.specs.declared.event.Confirmation.{Confirmation}
+use Rattle.fnc_journal.specs.declared.event.Described.{Described}
+use Rattle.fnc_journal.specs.declared.event.Ended.{Ended}
 use Rattle.fnc_journal.specs.declared.event.Event.{Event}
+use Rattle.fnc_journal.specs.declared.event.LevelCleared.{LevelCleared}
+use Rattle.fnc_journal.specs.declared.event.LevelSet.{LevelSet}
+use Rattle.fnc_journal.specs.declared.event.Refusal.{Refusal}
+use Rattle.fnc_journal.specs.declared.event.Registered.{Registered}
+use Rattle.fnc_journal.specs.declared.event.Reply.{Reply}
+use Rattle.fnc_journal.specs.declared.event.Request.{Request}
+use Rattle.fnc_journal.specs.declared.event.Start.{Start}
 use Rattle.fnc_journal.specs.declared.entry.Exit.{Exit}
-use Rattle.fnc_journal.specs.declared.entry.Kind.{Kind}
 use Rattle.fnc_journal.specs.declared.entry.LevelTarget.{LevelTarget}
 use Rattle.fnc_journal.specs.declared.entry.Phase.{Phase}
 use Rattle.fnc_journal.specs.declared.entry.Reg.{Reg}
-use Rattle.fnc_journal.specs.declared.entry.Req.{Req}
-use Rattle.fnc_journal.specs.declared.entry.Run.{Run}
 use Rattle.fnc_journal.specs.declared.entry.Scope.{Scope}
-use Rattle.fnc_journal.specs.declared.entry.Slot.{Slot}
 use Rattle.fnc_journal.specs.declared.names.Pair.{Pair}
 use Rattle.fnc_journal.specs.Causes.{word_of}
 use Rattle.fnc_journal.specs.Line.{escaped, kind_word}
@@ -66,7 +68,9 @@ chosen has word words = if has then word ∷ words else words
 -- the actions that there are, in this order
 abbrev pub actions_words : Actions → List (List ℕ)
 actions_words a =
-    chosen a.on (codes "on") (chosen a.off (codes "off") (chosen a.reboot (codes "reboot") (chosen a.list (codes "list") (chosen a.status (codes "status") []))))
+    chosen a.on (codes "on")
+    (chosen a.off (codes "off")
+    (chosen a.reboot (codes "reboot") (chosen a.list (codes "list") (chosen a.status (codes "status") []))))
 
 -- they are separated by commas
 abbrev pub actions_text : Actions → List ℕ
@@ -98,37 +102,37 @@ abbrev pub own_word : Pair → List ℕ
 own_word o = codes "o." ++ escaped o.name ++ codes "=" ++ escaped o.value
 
 -- the words of a device: its number, its name, its agent, and what it can do for which nodes
-abbrev pub nodes_words : Reg → Registration → List (List ℕ)
-nodes_words reg r =
+abbrev pub nodes_words : Registered → List (List ℕ)
+nodes_words device =
     codes "device"
-    ∷ decimal reg.0
-    ∷ escaped r.name
-    ∷ escaped r.agent
-    ∷ (codes "actions=" ++ actions_text r.definition.actions)
-    ∷ (codes "check=" ++ check_word r.definition.check)
-    ∷ (codes "hosts=" ++ names_text r.definition.hosts)
-    ∷ (codes "map=" ++ map_text r.definition.map)
-    ∷ (codes "argument=" ++ text_or_none r.definition.argument)
+    ∷ decimal device.reg.0
+    ∷ escaped device.registration.name
+    ∷ escaped device.registration.agent
+    ∷ (codes "actions=" ++ actions_text device.registration.definition.actions)
+    ∷ (codes "check=" ++ check_word device.registration.definition.check)
+    ∷ (codes "hosts=" ++ names_text device.registration.definition.hosts)
+    ∷ (codes "map=" ++ map_text device.registration.definition.map)
+    ∷ (codes "argument=" ++ text_or_none device.registration.definition.argument)
     ∷ []
 
 -- then its limits, its times, and its own options
-abbrev pub limits_words : Definition → List (List ℕ)
-limits_words d =
-    (codes "limit=" ++ cap_text d.cap)
-    ∷ (codes "priority=" ++ signed_decimal d.priority)
-    ∷ (codes "delay=" ++ base_text d.base)
-    ∷ (codes "max=" ++ decimal d.max)
-    ∷ (codes "keep=" ++ decimal d.keep)
-    ∷ (codes "on=" ++ allowed_text d.on)
-    ∷ (codes "off=" ++ allowed_text d.off)
-    ∷ (codes "reboot=" ++ allowed_text d.reboot)
-    ∷ (codes "list=" ++ allowed_text d.list)
-    ∷ (codes "status=" ++ allowed_text d.status)
-    ∷ map own_word d.own
+abbrev pub limits_words : Registered → List (List ℕ)
+limits_words device =
+    (codes "limit=" ++ cap_text device.registration.definition.cap)
+    ∷ (codes "priority=" ++ signed_decimal device.registration.definition.priority)
+    ∷ (codes "delay=" ++ base_text device.registration.definition.base)
+    ∷ (codes "max=" ++ decimal device.registration.definition.max)
+    ∷ (codes "keep=" ++ decimal device.registration.definition.keep)
+    ∷ (codes "on=" ++ allowed_text device.registration.definition.on)
+    ∷ (codes "off=" ++ allowed_text device.registration.definition.off)
+    ∷ (codes "reboot=" ++ allowed_text device.registration.definition.reboot)
+    ∷ (codes "list=" ++ allowed_text device.registration.definition.list)
+    ∷ (codes "status=" ++ allowed_text device.registration.definition.status)
+    ∷ map own_word device.registration.definition.own
 
 -- all of them
-abbrev pub device_words : Reg → Registration → List (List ℕ)
-device_words reg r = nodes_words reg r ++ limits_words r.definition
+abbrev pub device_words : Registered → List (List ℕ)
+device_words device = nodes_words device ++ limits_words device
 
 -- `1` for yes, `0` for no
 abbrev pub flag_text : Bool → List ℕ
@@ -186,44 +190,72 @@ answer_text Answer.Time = codes "time"
 answer_text Answer.NoDevice = codes "none"
 
 -- a level and its devices
-abbrev pub level_words : ℕ → LevelTarget → List (List ℕ) → List (List ℕ)
-level_words index target devices =
-    codes "level" ∷ decimal index ∷ target_word target ∷ escaped (target_text target) ∷ names_text devices ∷ []
+abbrev pub level_words : LevelSet → List (List ℕ)
+level_words level =
+    codes "level"
+    ∷ decimal level.index
+    ∷ target_word level.target
+    ∷ escaped (target_text level.target)
+    ∷ names_text level.devices
+    ∷ []
 
 -- a level that is gone
-abbrev pub level_gone_words : ℕ → LevelTarget → List (List ℕ)
-level_gone_words index target = codes "unlevel" ∷ decimal index ∷ target_word target ∷ escaped (target_text target) ∷ []
+abbrev pub level_gone_words : LevelCleared → List (List ℕ)
+level_gone_words level =
+    codes "unlevel" ∷ decimal level.index ∷ target_word level.target ∷ escaped (target_text level.target) ∷ []
 
 -- what is told of an agent
-abbrev pub agent_words : List ℕ → Description → List (List ℕ)
-agent_words name d =
-    codes "agent" ∷ escaped name ∷ (codes "actions=" ++ actions_text d.actions) ∷ (codes "target=" ++ text_or_none d.target) ∷ map parameter_word d.parameters
+abbrev pub agent_words : Described → List (List ℕ)
+agent_words agent =
+    codes "agent"
+    ∷ escaped agent.name
+    ∷ (codes "actions=" ++ actions_text agent.description.actions)
+    ∷ (codes "target=" ++ text_or_none agent.description.target)
+    ∷ map parameter_word agent.description.parameters
 
 -- how a run ended
-abbrev pub exit_words : Run → Exit → Bool → List (List ℕ)
-exit_words run exit is_listed = codes "exit" ∷ decimal run.0 ∷ exit_word exit ∷ flag_text is_listed ∷ []
+abbrev pub exit_words : Ended → List (List ℕ)
+exit_words ended = codes "exit" ∷ decimal ended.run.0 ∷ exit_word ended.exit ∷ flag_text ended.listed ∷ []
 
 -- an operator confirms a node's state
-abbrev pub confirm_words : List ℕ → List ℕ → List (List ℕ)
-confirm_words client target = codes "confirm" ∷ escaped client ∷ escaped target ∷ []
+abbrev pub confirm_words : Confirmation → List (List ℕ)
+confirm_words confirmation = codes "confirm" ∷ escaped confirmation.client ∷ escaped confirmation.target ∷ []
 
 -- why a line was refused
-abbrev pub refused_words : ℕ → Cause → List (List ℕ)
-refused_words line cause = codes "refused" ∷ decimal line ∷ word_of cause ∷ []
+abbrev pub refused_words : Refusal → List (List ℕ)
+refused_words refusal = codes "refused" ∷ decimal refusal.line ∷ word_of refusal.cause ∷ []
 
 -- the start of a run
-abbrev pub start_words : Run → Req → Slot → Reg → Kind → ℕ → List (List ℕ)
-start_words run req slot reg kind attempt =
-    codes "start" ∷ decimal run.0 ∷ decimal req.0 ∷ phase_word slot.phase ∷ decimal slot.level ∷ decimal slot.place ∷ decimal reg.0 ∷ kind_word kind ∷ decimal attempt ∷ []
+abbrev pub start_words : Start → List (List ℕ)
+start_words start =
+    codes "start"
+    ∷ decimal start.run.0
+    ∷ decimal start.req.0
+    ∷ phase_word start.slot.phase
+    ∷ decimal start.slot.level
+    ∷ decimal start.slot.place
+    ∷ decimal start.reg.0
+    ∷ kind_word start.kind
+    ∷ decimal start.attempt
+    ∷ []
 
 -- a request
-abbrev pub ask_words : Req → Req → List ℕ → Kind → List ℕ → ℕ → ℕ → Scope → List (List ℕ)
-ask_words req lead client kind target total coin scope =
-    codes "ask" ∷ decimal req.0 ∷ decimal lead.0 ∷ escaped client ∷ kind_word kind ∷ escaped target ∷ decimal total ∷ decimal coin ∷ scope_word scope ∷ []
+abbrev pub ask_words : Request → List (List ℕ)
+ask_words request =
+    codes "ask"
+    ∷ decimal request.req.0
+    ∷ decimal request.lead.0
+    ∷ escaped request.client
+    ∷ kind_word request.kind
+    ∷ escaped request.target
+    ∷ decimal request.total
+    ∷ decimal request.coin
+    ∷ scope_word request.scope
+    ∷ []
 
 -- what a request is answered
-abbrev pub reply_words : Req → Answer → List (List ℕ)
-reply_words req answer = codes "reply" ∷ decimal req.0 ∷ answer_word answer ∷ answer_text answer ∷ []
+abbrev pub reply_words : Reply → List (List ℕ)
+reply_words reply = codes "reply" ∷ decimal reply.req.0 ∷ answer_word reply.answer ∷ answer_text reply.answer ∷ []
 
 -- a registration that is gone
 abbrev pub gone_words : Reg → List (List ℕ)
@@ -231,18 +263,18 @@ gone_words reg = codes "gone" ∷ decimal reg.0 ∷ []
 
 -- the words after the moment
 abbrev pub words_of : Event → List (List ℕ)
-words_of (Event.Device device) = device_words device.reg device.registration
+words_of (Event.Device device) = device_words device
 words_of (Event.Gone reg) = gone_words reg
-words_of (Event.Level set) = level_words set.index set.target set.devices
-words_of (Event.LevelGone cleared) = level_gone_words cleared.index cleared.target
-words_of (Event.Agent described) = agent_words described.name described.description
-words_of (Event.Ask ask) = ask_words ask.req ask.lead ask.client ask.kind ask.target ask.total ask.coin ask.scope
-words_of (Event.Exit ended) = exit_words ended.run ended.exit ended.listed
+words_of (Event.Level level) = level_words level
+words_of (Event.LevelGone level) = level_gone_words level
+words_of (Event.Agent agent) = agent_words agent
+words_of (Event.Ask request) = ask_words request
+words_of (Event.Exit ended) = exit_words ended
 words_of Event.Pass = codes "pass" ∷ []
-words_of (Event.Confirm confirmation) = confirm_words confirmation.client confirmation.target
-words_of (Event.Refused refusal) = refused_words refusal.line refusal.cause
-words_of (Event.Start start) = start_words start.run start.req start.slot start.reg start.kind start.attempt
-words_of (Event.Reply reply) = reply_words reply.req reply.answer
+words_of (Event.Confirm confirmation) = confirm_words confirmation
+words_of (Event.Refused refusal) = refused_words refusal
+words_of (Event.Start start) = start_words start
+words_of (Event.Reply reply) = reply_words reply
 
 -- words, a space before each
 abbrev pub spaced : List (List ℕ) → List ℕ

@@ -6,12 +6,14 @@ use Rattle.std.specs.Str.{is_utf8}
 use Rattle.fnc_journal.specs.declared.definition.Base.{Base}
 use Rattle.fnc_journal.specs.declared.definition.Definition.{Definition}
 use Rattle.fnc_journal.specs.declared.definition.Delay.{Delay}
-use Rattle.fnc_journal.specs.declared.definition.Description.{Description}
 use Rattle.fnc_journal.specs.declared.definition.Parameter.{Parameter}
 use Rattle.fnc_journal.specs.declared.definition.Registration.{Registration}
 use Rattle.fnc_journal.specs.declared.entry.Answer.{Answer}
 use Rattle.fnc_journal.specs.declared.entry.Entry.{Entry}
+use Rattle.fnc_journal.specs.declared.event.Described.{Described}
 use Rattle.fnc_journal.specs.declared.event.Event.{Event}
+use Rattle.fnc_journal.specs.declared.event.Request.{Request}
+use Rattle.fnc_journal.specs.declared.event.Start.{Start}
 use Rattle.fnc_journal.specs.declared.entry.Exit.{Exit}
 use Rattle.fnc_journal.specs.declared.entry.LevelTarget.{LevelTarget}
 use Rattle.fnc_journal.specs.declared.entry.Scope.{Scope}
@@ -58,10 +60,10 @@ pub record IsDevice (r : Registration) : Type 0 where
   pub definition : IsDefinition r.definition
 
 -- what is told of an agent
-pub record IsAgent (agent : List ℕ) (d : Description) : Type 0 where
-  pub name : IsTrue (are_characters agent)
-  pub target : IsTrue (is_optional d.target)
-  pub parameters : IsTrue (list_all is_parameter d.parameters)
+pub record IsAgent (a : Described) : Type 0 where
+  pub name : IsTrue (are_characters a.name)
+  pub target : IsTrue (is_optional a.description.target)
+  pub parameters : IsTrue (list_all is_parameter a.description.parameters)
 
 -- numbers of 8, 32 and 64 bits
 abbrev pub IsU8 : ℕ → Type 0
@@ -89,21 +91,39 @@ abbrev pub IsAnswer : Answer → Type 0
 IsAnswer (Answer.Passed level) = IsU8 level
 IsAnswer _ = Unit {0}
 
+-- a request
+pub record IsRequest (r : Request) : Type 0 where
+  pub req : IsU32 r.req.0
+  pub lead : IsU32 r.lead.0
+  pub client : IsTrue (are_characters r.client)
+  pub target : IsTrue (are_characters r.target)
+  pub total : IsU64 r.total
+  pub coin : IsU64 r.coin
+  pub scope : IsScope r.scope
+
+-- the start of a run
+pub record IsStart (s : Start) : Type 0 where
+  pub run : IsU32 s.run.0
+  pub req : IsU32 s.req.0
+  pub level : IsU8 s.slot.level
+  pub place : IsU8 s.slot.place
+  pub reg : IsU32 s.reg.0
+  pub attempt : IsU8 s.attempt
+
 -- an event
 abbrev pub IsEvent : Event → Type 0
 IsEvent (Event.Device device) = IsU32 device.reg.0 × IsDevice device.registration
 IsEvent (Event.Gone reg) = IsU32 reg.0
-IsEvent (Event.Level set) = IsTrue (is_target set.target) × IsTrue (list_all are_characters set.devices)
-IsEvent (Event.LevelGone cleared) = IsTrue (is_target cleared.target)
-IsEvent (Event.Agent described) = IsAgent described.name described.description
-IsEvent (Event.Ask ask) =
-    IsU32 ask.req.0 × (IsU32 ask.lead.0 × (IsTrue (are_characters ask.client) × (IsTrue (are_characters ask.target) × (IsU64 ask.total × (IsU64 ask.coin × IsScope ask.scope)))))
+IsEvent (Event.Level level) = IsTrue (is_target level.target) × IsTrue (list_all are_characters level.devices)
+IsEvent (Event.LevelGone level) = IsTrue (is_target level.target)
+IsEvent (Event.Agent agent) = IsAgent agent
+IsEvent (Event.Ask request) = IsRequest request
 IsEvent (Event.Exit ended) = IsU32 ended.run.0 × IsExit ended.exit
 IsEvent Event.Pass = Unit {0}
-IsEvent (Event.Confirm confirmation) = IsTrue (are_characters confirmation.client) × IsTrue (are_characters confirmation.target)
+IsEvent (Event.Confirm confirmation) =
+    IsTrue (are_characters confirmation.client) × IsTrue (are_characters confirmation.target)
 IsEvent (Event.Refused refusal) = IsU32 refusal.line
-IsEvent (Event.Start start) =
-    IsU32 start.run.0 × (IsU32 start.req.0 × (IsU8 start.slot.level × (IsU8 start.slot.place × (IsU32 start.reg.0 × IsU8 start.attempt))))
+IsEvent (Event.Start start) = IsStart start
 IsEvent (Event.Reply reply) = IsU32 reply.req.0 × IsAnswer reply.answer
 
 -- an entry

@@ -6,86 +6,30 @@ ghost use Rattle.fnc_text.specs.Names as Names;
 ghost use Rattle.fnc_journal.specs.Bounds as Bounds;
 ghost use Rattle.fnc_journal_text.specs.Within as Within;
 
-use fnc_journal::{Allowed, Base, Confirmation, Definition, Delay, Described, Description, Entry, Event, LevelCleared, LevelSet, LevelTarget, Pair, Parameter, Registered, Registration, Request, Text};
+use fnc_journal::limits::{
+    DAY, GREATEST_PRIORITY, LONGEST_NAME, LONGEST_VALUE, MOST_DEVICES_OF_LEVEL, MOST_HOSTS,
+    MOST_LEVELS_OF_TARGET, MOST_OPTIONS, MOST_PARAMETERS, MOST_RUNS, MOST_TRIES,
+};
+use fnc_journal::{
+    Allowed, Base, Confirmation, Definition, Delay, Described, Description, Entry, Event,
+    LevelCleared, LevelSet, LevelTarget, Pair, Parameter, Registration, Request, Text,
+    is_option_name, is_option_value, is_own, is_value_byte,
+};
 use fnc_text::is_name;
-
-/// The longest duration, a day, in milliseconds.
-const DAY: u64 = 86_400_000;
 
 /// Whether an entry is within the bounds.
 pub(crate) fn is_within(entry: &Entry) -> bool
     ensures { result ≡ Within.is_within entry.now }
 {
     match &entry.event {
-        Event::Device(Registered { registration, .. }) => is_device(registration),
-        Event::Level(LevelSet {
-            target,
-            index,
-            devices,
-        }) => {
-            is_index(*index)
-                && is_target(target)
-                && !devices.as_slice().is_empty()
-                && devices.as_slice().len() <= 8
-                && are_names(devices.as_slice())
-        }
-        Event::LevelGone(LevelCleared { target, index }) => is_index(*index) && is_target(target),
-        Event::Agent(Described { name, description }) => {
-            is_agent_name(name.as_str()) && is_described(description)
-        }
-        Event::Ask(Request { client, target, .. }) | Event::Confirm(Confirmation { client, target }) => {
-            is_name(client.as_str()) && is_name(target.as_str())
-        }
+        Event::Device(device) => is_device(device.registration.get()),
+        Event::Level(level) => is_level(level),
+        Event::LevelGone(level) => is_level_gone(level),
+        Event::Agent(agent) => is_agent(agent),
+        Event::Ask(request) => is_request(request.get()),
+        Event::Confirm(confirmation) => is_confirmation(confirmation),
         _ => true,
     }
-}
-
-fn is_option_byte(byte: u8) -> bool
-    ensures { result ≡ Bounds.is_option_byte byte }
-{
-    byte >= 0x21 && byte != 0x7F && byte != b'='
-}
-
-fn are_option_bytes(text: &[u8]) -> bool
-    ensures { result ≡ list_all Bounds.is_option_byte text.now }
-{
-    text.iter().all(|b| is_option_byte(*b))
-}
-
-/// A name of an option: 1 to 64 bytes, and no `#` in front.
-fn is_option_name(name: &[u8]) -> bool
-    ensures { result ≡ Bounds.is_option_name name.now }
-{
-    match name {
-        [] => false,
-        [first, ..] => *first != b'#' && name.len() <= 64 && are_option_bytes(name),
-    }
-}
-
-fn is_value_byte(byte: u8) -> bool
-    ensures { result ≡ Bounds.is_value_byte byte }
-{
-    byte >= 0x20 && byte != 0x7F
-}
-
-fn are_value_bytes(text: &[u8]) -> bool
-    ensures { result ≡ list_all Bounds.is_value_byte text.now }
-{
-    text.iter().all(|b| is_value_byte(*b))
-}
-
-/// A value of an option: at most 4096 bytes.
-fn is_option_value(value: &[u8]) -> bool
-    ensures { result ≡ Bounds.is_option_value value.now }
-{
-    value.len() <= 4_096 && are_value_bytes(value)
-}
-
-/// Whether an option of this name is passed on to the agent.
-fn is_own(name: &str) -> bool
-    ensures { result ≡ Bounds.is_own name.now }
-{
-    !name.as_bytes().starts_with(b"pcmk_") && name != "priority"
 }
 
 fn is_entry_byte(byte: u8) -> bool
@@ -127,19 +71,19 @@ fn are_node_bytes(text: &[u8]) -> bool
 fn is_host(name: &[u8]) -> bool
     ensures { result ≡ Bounds.is_host name.now }
 {
-    !name.is_empty() && name.len() <= 255 && are_host_bytes(name)
+    !name.is_empty() && name.len() <= LONGEST_NAME && are_host_bytes(name)
 }
 
 fn is_node(name: &[u8]) -> bool
     ensures { result ≡ Bounds.is_node name.now }
 {
-    !name.is_empty() && name.len() <= 255 && are_node_bytes(name)
+    !name.is_empty() && name.len() <= LONGEST_NAME && are_node_bytes(name)
 }
 
 fn is_port(port: &[u8]) -> bool
     ensures { result ≡ Bounds.is_text 4094 Bounds.is_entry_byte port.now }
 {
-    !port.is_empty() && port.len() <= 4_094 && are_entry_bytes(port)
+    !port.is_empty() && port.len() <= LONGEST_VALUE - 2 && are_entry_bytes(port)
 }
 
 fn is_host_pair(pair: &Pair) -> bool
@@ -152,7 +96,7 @@ fn is_carrier(name: &Option<Text>) -> bool
     ensures { result ≡ Bounds.is_carrier name.now }
 {
     match name {
-        Some(name) => is_option_name(name.as_str().as_bytes()),
+        Some(name) => is_option_name(name.as_str()),
         None => true,
     }
 }
@@ -161,7 +105,7 @@ fn is_cap(cap: Option<u32>) -> bool
     ensures { result ≡ Bounds.is_cap cap }
 {
     match cap {
-        Some(limit) => limit > 0 && limit <= 64,
+        Some(limit) => limit > 0 && limit <= MOST_RUNS,
         None => true,
     }
 }
@@ -169,7 +113,7 @@ fn is_cap(cap: Option<u32>) -> bool
 fn is_priority(priority: i32) -> bool
     ensures { result ≡ Bounds.is_priority priority }
 {
-    priority >= -1_000_000 && priority <= 1_000_000
+    priority.unsigned_abs() <= GREATEST_PRIORITY
 }
 
 fn is_delay(delay: &Delay) -> bool
@@ -191,7 +135,7 @@ fn is_base(base: &Base) -> bool
         Base::Fixed(ms) => *ms <= DAY,
         Base::ByNode(delays) => {
             !delays.as_slice().is_empty()
-                && delays.as_slice().len() <= 256
+                && delays.as_slice().len() <= MOST_HOSTS
                 && are_delays(delays.as_slice())
         }
     }
@@ -200,13 +144,13 @@ fn is_base(base: &Base) -> bool
 fn is_allowed(allowed: &Allowed) -> bool
     ensures { result ≡ Bounds.is_allowed allowed.now }
 {
-    let word = allowed.word.as_str().as_bytes();
+    let word = allowed.word.as_str();
     !word.is_empty()
         && is_option_value(word)
         && allowed.time > 0
         && allowed.time <= DAY
         && allowed.tries > 0
-        && allowed.tries <= 16
+        && allowed.tries <= MOST_TRIES
 }
 
 fn ends_with_space(text: &[u8]) -> bool
@@ -218,8 +162,8 @@ fn ends_with_space(text: &[u8]) -> bool
 fn is_own_option(option: &Pair) -> bool
     ensures { result ≡ Bounds.is_own_option option.now }
 {
-    is_option_name(option.name.as_str().as_bytes())
-        && is_option_value(option.value.as_str().as_bytes())
+    is_option_name(option.name.as_str())
+        && is_option_value(option.value.as_str())
         && is_own(option.name.as_str())
         && !ends_with_space(option.value.as_str().as_bytes())
 }
@@ -254,9 +198,9 @@ fn are_nodes(definition: &Definition) -> bool
     let hosts = definition.hosts.as_slice();
     let map = definition.map.as_slice();
     definition.actions.off
-        && hosts.len() <= 256
+        && hosts.len() <= MOST_HOSTS
         && are_hosts(hosts)
-        && map.len() <= 256
+        && map.len() <= MOST_HOSTS
         && are_host_pairs(map)
         && is_carrier(&definition.argument)
 }
@@ -270,7 +214,7 @@ fn are_limits(definition: &Definition) -> bool
         && is_base(&definition.base)
         && definition.max <= DAY
         && definition.keep <= DAY
-        && own.len() <= 32
+        && own.len() <= MOST_OPTIONS
         && are_own_options(own)
 }
 
@@ -313,7 +257,7 @@ fn is_agent_name(name: &str) -> bool
 fn is_parameter(parameter: &Parameter) -> bool
     ensures { result ≡ Within.is_parameter parameter.now }
 {
-    is_option_name(parameter.name.as_str().as_bytes())
+    is_option_name(parameter.name.as_str())
 }
 
 fn are_parameters(parameters: &[Parameter]) -> bool
@@ -327,7 +271,7 @@ fn is_described(description: &Description) -> bool
 {
     let parameters = description.parameters.as_slice();
     description.actions.off
-        && parameters.len() <= 64
+        && parameters.len() <= MOST_PARAMETERS
         && are_parameters(parameters)
         && is_carrier(&description.target)
 }
@@ -338,7 +282,7 @@ fn is_target(target: &LevelTarget) -> bool
     match target {
         LevelTarget::Name(name) => is_name(name.as_str()),
         LevelTarget::Pattern(pattern) => {
-            !pattern.as_str().is_empty() && pattern.as_str().len() <= 255
+            !pattern.as_str().is_empty() && pattern.as_str().len() <= LONGEST_NAME
         }
     }
 }
@@ -346,5 +290,40 @@ fn is_target(target: &LevelTarget) -> bool
 fn is_index(index: u8) -> bool
     ensures { result ≡ Within.is_index index }
 {
-    index > 0 && index <= 9
+    index > 0 && index <= MOST_LEVELS_OF_TARGET
+}
+
+fn is_level(level: &LevelSet) -> bool
+    ensures { result ≡ Within.is_level level.now }
+{
+    let devices = level.devices.as_slice();
+    is_index(level.index)
+        && is_target(&level.target)
+        && !devices.is_empty()
+        && devices.len() <= MOST_DEVICES_OF_LEVEL
+        && are_names(devices)
+}
+
+fn is_level_gone(level: &LevelCleared) -> bool
+    ensures { result ≡ Within.is_level_gone level.now }
+{
+    is_index(level.index) && is_target(&level.target)
+}
+
+fn is_agent(agent: &Described) -> bool
+    ensures { result ≡ Within.is_agent agent.now }
+{
+    is_agent_name(agent.name.as_str()) && is_described(agent.description.get())
+}
+
+fn is_request(request: &Request) -> bool
+    ensures { result ≡ Within.is_request request.now }
+{
+    is_name(request.client.as_str()) && is_name(request.target.as_str())
+}
+
+fn is_confirmation(confirmation: &Confirmation) -> bool
+    ensures { result ≡ Within.is_confirmation confirmation.now }
+{
+    is_name(confirmation.client.as_str()) && is_name(confirmation.target.as_str())
 }

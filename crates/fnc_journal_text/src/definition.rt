@@ -9,40 +9,33 @@ ghost use Rattle.fnc_journal_text.specs.Spelled.{base_text, device_words, nodes_
 
 use crate::parts::{Part, print_parts};
 use crate::words::check_word;
-use fnc_journal::{Base, Definition, Reg, Registration};
+use fnc_journal::{Base, Registered};
 use fnc_outside::{Sink, SinkFailed};
 
 /// Prints the words of a registered device, a space before each.
-pub(crate) fn print_device<K: Sink>(
-    reg: Reg,
-    registration: &Registration,
-    sink: &mut K,
-) -> Result<(), SinkFailed>
-    ensures ok { OnOk result (Gains (K.held sink.old) (K.held sink.new) (spaced (device_words reg registration.now))) }
-    ensures err { OnErr result (AppendsPart (K.held sink.old) (K.held sink.new) (spaced (device_words reg registration.now))) }
+pub(crate) fn print_device<K: Sink>(device: &Registered, sink: &mut K) -> Result<(), SinkFailed>
+    ensures ok { OnOk result (Gains (K.held sink.old) (K.held sink.new) (spaced (device_words device.now))) }
+    ensures err { OnErr result (AppendsPart (K.held sink.old) (K.held sink.new) (spaced (device_words device.now))) }
     ensures count { K.faults sink.old ≤ K.faults sink.new }
     ensures cause { OnErr result (Rose (K.faults sink.old) (K.faults sink.new)) }
 {
-    print_nodes(reg, registration, sink)?;
-    print_limits(&registration.definition, sink)
+    print_nodes(device, sink)?;
+    print_limits(device, sink)
 }
 
 /// Prints the names of a device, and what it can do for which nodes.
-fn print_nodes<K: Sink>(
-    reg: Reg,
-    registration: &Registration,
-    sink: &mut K,
-) -> Result<(), SinkFailed>
-    ensures ok { OnOk result (Gains (K.held sink.old) (K.held sink.new) (spaced (nodes_words reg registration.now))) }
-    ensures err { OnErr result (AppendsPart (K.held sink.old) (K.held sink.new) (spaced (nodes_words reg registration.now))) }
+fn print_nodes<K: Sink>(device: &Registered, sink: &mut K) -> Result<(), SinkFailed>
+    ensures ok { OnOk result (Gains (K.held sink.old) (K.held sink.new) (spaced (nodes_words device.now))) }
+    ensures err { OnErr result (AppendsPart (K.held sink.old) (K.held sink.new) (spaced (nodes_words device.now))) }
     ensures count { K.faults sink.old ≤ K.faults sink.new }
     ensures cause { OnErr result (Rose (K.faults sink.old) (K.faults sink.new)) }
 {
+    let registration = device.registration.get();
     let definition = &registration.definition;
     print_parts(
         &[
             Part::Word(" device "),
-            Part::Number(u64::from(reg.0)),
+            Part::Number(u64::from(device.reg.0)),
             Part::Word(" "),
             Part::Name(registration.name.as_str()),
             Part::Word(" "),
@@ -63,12 +56,14 @@ fn print_nodes<K: Sink>(
 }
 
 /// Prints the limits of a device, its times, and its own options.
-fn print_limits<K: Sink>(definition: &Definition, sink: &mut K) -> Result<(), SinkFailed>
-    ensures ok { OnOk result (Gains (K.held sink.old) (K.held sink.new) (spaced (limits_words definition.now))) }
-    ensures err { OnErr result (AppendsPart (K.held sink.old) (K.held sink.new) (spaced (limits_words definition.now))) }
+fn print_limits<K: Sink>(device: &Registered, sink: &mut K) -> Result<(), SinkFailed>
+    ensures ok { OnOk result (Gains (K.held sink.old) (K.held sink.new) (spaced (limits_words device.now))) }
+    ensures err { OnErr result (AppendsPart (K.held sink.old) (K.held sink.new) (spaced (limits_words device.now))) }
     ensures count { K.faults sink.old ≤ K.faults sink.new }
     ensures cause { OnErr result (Rose (K.faults sink.old) (K.faults sink.new)) }
 {
+    let registration = device.registration.get();
+    let definition = &registration.definition;
     print_parts(
         &[
             Part::Word(" limit="),

@@ -4,7 +4,9 @@ ghost use Rattle.std.specs.Prelude.{◌≤◌, OnOk, OnErr};
 ghost use Rattle.fnc_outside.specs.Faults.{Rose};
 ghost use Rattle.fnc_outside.specs.Told.{Gains};
 ghost use Rattle.fnc_outside.specs.Writes.{AppendsPart};
-ghost use Rattle.fnc_journal_text.specs.Spelled.{agent_words, ask_words, confirm_words, exit_words, gone_words, level_gone_words, level_words, refused_words, reply_words, spaced, start_words, words_of};
+ghost use Rattle.fnc_journal_text.specs.Spelled.{agent_words, ask_words, confirm_words, exit_words, gone_words};
+ghost use Rattle.fnc_journal_text.specs.Spelled.{level_gone_words, level_words, refused_words, reply_words};
+ghost use Rattle.fnc_journal_text.specs.Spelled.{spaced, start_words, words_of};
 
 use crate::definition::print_device;
 use crate::parts::{Part, print_parts};
@@ -12,7 +14,10 @@ use crate::printing::{Piece, print_pieces};
 use crate::words::{
     answer_piece, answer_word, exit_piece, flag_word, phase_word, target_text, target_word,
 };
-use fnc_journal::{Answer, Cause, Confirmation, Described, Description, Ended, Event, Exit, Kind, LevelCleared, LevelSet, LevelTarget, Names, Refusal, Reg, Registered, Reply, Req, Request, Run, Scope, Slot, Start, Text};
+use fnc_journal::{
+    Confirmation, Described, Ended, Event, LevelCleared, LevelSet, Refusal, Reg, Reply, Request,
+    Start,
+};
 use fnc_outside::{Sink, SinkFailed};
 
 /// Prints the words of an event, a space before each.
@@ -23,40 +28,18 @@ pub(crate) fn print_event<K: Sink>(event: &Event, sink: &mut K) -> Result<(), Si
     ensures cause { OnErr result (Rose (K.faults sink.old) (K.faults sink.new)) }
 {
     match event {
-        Event::Device(Registered { reg, registration }) => print_device(*reg, registration, sink),
+        Event::Device(device) => print_device(device, sink),
         Event::Gone { reg } => print_gone(*reg, sink),
-        Event::Level(LevelSet {
-            target,
-            index,
-            devices,
-        }) => print_level(*index, target, devices, sink),
-        Event::LevelGone(LevelCleared { target, index }) => print_level_gone(*index, target, sink),
-        Event::Agent(Described { name, description }) => print_agent(name, description, sink),
-        Event::Ask(Request {
-            req,
-            lead,
-            client,
-            kind,
-            target,
-            total,
-            coin,
-            scope,
-        }) => print_ask(
-            *req, *lead, client, *kind, target, *total, *coin, *scope, sink,
-        ),
-        Event::Exit(Ended { run, exit, listed }) => print_exit(*run, *exit, *listed, sink),
+        Event::Level(level) => print_level(level, sink),
+        Event::LevelGone(level) => print_level_gone(level, sink),
+        Event::Agent(agent) => print_agent(agent, sink),
+        Event::Ask(request) => print_ask(request.get(), sink),
+        Event::Exit(ended) => print_exit(ended, sink),
         Event::Pass => print_pieces(&[Piece::Word(" pass")], sink),
-        Event::Confirm(Confirmation { client, target }) => print_confirm(client, target, sink),
-        Event::Refused(Refusal { line, cause }) => print_refused(*line, *cause, sink),
-        Event::Start(Start {
-            run,
-            req,
-            slot,
-            reg,
-            kind,
-            attempt,
-        }) => print_start(*run, *req, *slot, *reg, *kind, *attempt, sink),
-        Event::Reply(Reply { req, answer }) => print_reply(*req, *answer, sink),
+        Event::Confirm(confirmation) => print_confirm(confirmation, sink),
+        Event::Refused(refusal) => print_refused(refusal, sink),
+        Event::Start(start) => print_start(start, sink),
+        Event::Reply(reply) => print_reply(reply, sink),
     }
 }
 
@@ -74,111 +57,89 @@ fn print_gone<K: Sink>(reg: Reg, sink: &mut K) -> Result<(), SinkFailed>
 }
 
 /// Prints a request.
-fn print_ask<'a, K: Sink>(
-    req: Req,
-    lead: Req,
-    client: &'a Text,
-    kind: Kind,
-    target: &'a Text,
-    total: u64,
-    coin: u64,
-    scope: Scope,
-    sink: &mut K,
-) -> Result<(), SinkFailed>
-    ensures ok { OnOk result (Gains (K.held sink.old) (K.held sink.new) (spaced (ask_words req lead client.now kind target.now total coin scope))) }
-    ensures err { OnErr result (AppendsPart (K.held sink.old) (K.held sink.new) (spaced (ask_words req lead client.now kind target.now total coin scope))) }
+fn print_ask<K: Sink>(request: &Request, sink: &mut K) -> Result<(), SinkFailed>
+    ensures ok { OnOk result (Gains (K.held sink.old) (K.held sink.new) (spaced (ask_words request.now))) }
+    ensures err { OnErr result (AppendsPart (K.held sink.old) (K.held sink.new) (spaced (ask_words request.now))) }
     ensures count { K.faults sink.old ≤ K.faults sink.new }
     ensures cause { OnErr result (Rose (K.faults sink.old) (K.faults sink.new)) }
 {
     print_parts(
         &[
             Part::Word(" ask "),
-            Part::Number(u64::from(req.0)),
+            Part::Number(u64::from(request.req.0)),
             Part::Word(" "),
-            Part::Number(u64::from(lead.0)),
+            Part::Number(u64::from(request.lead.0)),
             Part::Word(" "),
-            Part::Name(client.as_str()),
+            Part::Name(request.client.as_str()),
             Part::Word(" "),
-            Part::Word(kind.word()),
+            Part::Word(request.kind.word()),
             Part::Word(" "),
-            Part::Name(target.as_str()),
+            Part::Name(request.target.as_str()),
             Part::Word(" "),
-            Part::Number(total),
+            Part::Number(request.total),
             Part::Word(" "),
-            Part::Number(coin),
+            Part::Number(request.coin),
             Part::Word(" "),
-            Part::Scope(scope),
+            Part::Scope(request.scope),
         ],
         sink,
     )
 }
 
 /// Prints a level and its devices.
-fn print_level<'a, K: Sink>(
-    index: u8,
-    target: &'a LevelTarget,
-    devices: &'a Names,
-    sink: &mut K,
-) -> Result<(), SinkFailed>
-    ensures ok { OnOk result (Gains (K.held sink.old) (K.held sink.new) (spaced (level_words index target.now devices.now))) }
-    ensures err { OnErr result (AppendsPart (K.held sink.old) (K.held sink.new) (spaced (level_words index target.now devices.now))) }
+fn print_level<K: Sink>(level: &LevelSet, sink: &mut K) -> Result<(), SinkFailed>
+    ensures ok { OnOk result (Gains (K.held sink.old) (K.held sink.new) (spaced (level_words level.now))) }
+    ensures err { OnErr result (AppendsPart (K.held sink.old) (K.held sink.new) (spaced (level_words level.now))) }
     ensures count { K.faults sink.old ≤ K.faults sink.new }
     ensures cause { OnErr result (Rose (K.faults sink.old) (K.faults sink.new)) }
 {
     print_parts(
         &[
             Part::Word(" level "),
-            Part::Number(u64::from(index)),
+            Part::Number(u64::from(level.index)),
             Part::Word(" "),
-            Part::Word(target_word(target)),
+            Part::Word(target_word(&level.target)),
             Part::Word(" "),
-            Part::Name(target_text(target)),
+            Part::Name(target_text(&level.target)),
             Part::Word(" "),
-            Part::Names(devices.as_slice()),
+            Part::Names(level.devices.as_slice()),
         ],
         sink,
     )
 }
 
 /// Prints a level that is gone.
-fn print_level_gone<K: Sink>(
-    index: u8,
-    target: &LevelTarget,
-    sink: &mut K,
-) -> Result<(), SinkFailed>
-    ensures ok { OnOk result (Gains (K.held sink.old) (K.held sink.new) (spaced (level_gone_words index target.now))) }
-    ensures err { OnErr result (AppendsPart (K.held sink.old) (K.held sink.new) (spaced (level_gone_words index target.now))) }
+fn print_level_gone<K: Sink>(level: &LevelCleared, sink: &mut K) -> Result<(), SinkFailed>
+    ensures ok { OnOk result (Gains (K.held sink.old) (K.held sink.new) (spaced (level_gone_words level.now))) }
+    ensures err { OnErr result (AppendsPart (K.held sink.old) (K.held sink.new) (spaced (level_gone_words level.now))) }
     ensures count { K.faults sink.old ≤ K.faults sink.new }
     ensures cause { OnErr result (Rose (K.faults sink.old) (K.faults sink.new)) }
 {
     print_parts(
         &[
             Part::Word(" unlevel "),
-            Part::Number(u64::from(index)),
+            Part::Number(u64::from(level.index)),
             Part::Word(" "),
-            Part::Word(target_word(target)),
+            Part::Word(target_word(&level.target)),
             Part::Word(" "),
-            Part::Name(target_text(target)),
+            Part::Name(target_text(&level.target)),
         ],
         sink,
     )
 }
 
 /// Prints what is told of an agent.
-fn print_agent<'a, K: Sink>(
-    name: &'a Text,
-    description: &'a Description,
-    sink: &mut K,
-) -> Result<(), SinkFailed>
-    ensures ok { OnOk result (Gains (K.held sink.old) (K.held sink.new) (spaced (agent_words name.now description.now))) }
-    ensures err { OnErr result (AppendsPart (K.held sink.old) (K.held sink.new) (spaced (agent_words name.now description.now))) }
+fn print_agent<K: Sink>(agent: &Described, sink: &mut K) -> Result<(), SinkFailed>
+    ensures ok { OnOk result (Gains (K.held sink.old) (K.held sink.new) (spaced (agent_words agent.now))) }
+    ensures err { OnErr result (AppendsPart (K.held sink.old) (K.held sink.new) (spaced (agent_words agent.now))) }
     ensures count { K.faults sink.old ≤ K.faults sink.new }
     ensures cause { OnErr result (Rose (K.faults sink.old) (K.faults sink.new)) }
 {
+    let description = agent.description.get();
     print_parts(
         &[
             Part::Word(" agent "),
-            Part::Name(name.as_str()),
+            Part::Name(agent.name.as_str()),
             Part::Word(" actions="),
             Part::Actions(description.actions),
             Part::Word(" target="),
@@ -190,118 +151,106 @@ fn print_agent<'a, K: Sink>(
 }
 
 /// Prints how a run ended.
-fn print_exit<K: Sink>(run: Run, exit: Exit, listed: bool, sink: &mut K) -> Result<(), SinkFailed>
-    ensures ok { OnOk result (Gains (K.held sink.old) (K.held sink.new) (spaced (exit_words run exit listed))) }
-    ensures err { OnErr result (AppendsPart (K.held sink.old) (K.held sink.new) (spaced (exit_words run exit listed))) }
+fn print_exit<K: Sink>(ended: &Ended, sink: &mut K) -> Result<(), SinkFailed>
+    ensures ok { OnOk result (Gains (K.held sink.old) (K.held sink.new) (spaced (exit_words ended.now))) }
+    ensures err { OnErr result (AppendsPart (K.held sink.old) (K.held sink.new) (spaced (exit_words ended.now))) }
     ensures count { K.faults sink.old ≤ K.faults sink.new }
     ensures cause { OnErr result (Rose (K.faults sink.old) (K.faults sink.new)) }
 {
     print_pieces(
         &[
             Piece::Word(" exit "),
-            Piece::Number(u64::from(run.0)),
+            Piece::Number(u64::from(ended.run.0)),
             Piece::Word(" "),
-            exit_piece(exit),
+            exit_piece(ended.exit),
             Piece::Word(" "),
-            Piece::Word(flag_word(listed)),
+            Piece::Word(flag_word(ended.listed)),
         ],
         sink,
     )
 }
 
 /// Prints that an operator confirms a node's state.
-fn print_confirm<'a, K: Sink>(
-    client: &'a Text,
-    target: &'a Text,
-    sink: &mut K,
-) -> Result<(), SinkFailed>
-    ensures ok { OnOk result (Gains (K.held sink.old) (K.held sink.new) (spaced (confirm_words client.now target.now))) }
-    ensures err { OnErr result (AppendsPart (K.held sink.old) (K.held sink.new) (spaced (confirm_words client.now target.now))) }
+fn print_confirm<K: Sink>(confirmation: &Confirmation, sink: &mut K) -> Result<(), SinkFailed>
+    ensures ok { OnOk result (Gains (K.held sink.old) (K.held sink.new) (spaced (confirm_words confirmation.now))) }
+    ensures err { OnErr result (AppendsPart (K.held sink.old) (K.held sink.new) (spaced (confirm_words confirmation.now))) }
     ensures count { K.faults sink.old ≤ K.faults sink.new }
     ensures cause { OnErr result (Rose (K.faults sink.old) (K.faults sink.new)) }
 {
     print_pieces(
         &[
             Piece::Word(" confirm "),
-            Piece::Name(client.as_str()),
+            Piece::Name(confirmation.client.as_str()),
             Piece::Word(" "),
-            Piece::Name(target.as_str()),
+            Piece::Name(confirmation.target.as_str()),
         ],
         sink,
     )
 }
 
 /// Prints why a line was refused.
-fn print_refused<K: Sink>(line: u32, cause: Cause, sink: &mut K) -> Result<(), SinkFailed>
-    ensures ok { OnOk result (Gains (K.held sink.old) (K.held sink.new) (spaced (refused_words line cause))) }
-    ensures err { OnErr result (AppendsPart (K.held sink.old) (K.held sink.new) (spaced (refused_words line cause))) }
+fn print_refused<K: Sink>(refusal: &Refusal, sink: &mut K) -> Result<(), SinkFailed>
+    ensures ok { OnOk result (Gains (K.held sink.old) (K.held sink.new) (spaced (refused_words refusal.now))) }
+    ensures err { OnErr result (AppendsPart (K.held sink.old) (K.held sink.new) (spaced (refused_words refusal.now))) }
     ensures count { K.faults sink.old ≤ K.faults sink.new }
     ensures cause { OnErr result (Rose (K.faults sink.old) (K.faults sink.new)) }
 {
     print_pieces(
         &[
             Piece::Word(" refused "),
-            Piece::Number(u64::from(line)),
+            Piece::Number(u64::from(refusal.line)),
             Piece::Word(" "),
-            Piece::Word(cause.word()),
+            Piece::Word(refusal.cause.word()),
         ],
         sink,
     )
 }
 
 /// Prints the start of a run.
-fn print_start<K: Sink>(
-    run: Run,
-    req: Req,
-    slot: Slot,
-    reg: Reg,
-    kind: Kind,
-    attempt: u8,
-    sink: &mut K,
-) -> Result<(), SinkFailed>
-    ensures ok { OnOk result (Gains (K.held sink.old) (K.held sink.new) (spaced (start_words run req slot reg kind attempt))) }
-    ensures err { OnErr result (AppendsPart (K.held sink.old) (K.held sink.new) (spaced (start_words run req slot reg kind attempt))) }
+fn print_start<K: Sink>(start: &Start, sink: &mut K) -> Result<(), SinkFailed>
+    ensures ok { OnOk result (Gains (K.held sink.old) (K.held sink.new) (spaced (start_words start.now))) }
+    ensures err { OnErr result (AppendsPart (K.held sink.old) (K.held sink.new) (spaced (start_words start.now))) }
     ensures count { K.faults sink.old ≤ K.faults sink.new }
     ensures cause { OnErr result (Rose (K.faults sink.old) (K.faults sink.new)) }
 {
     print_pieces(
         &[
             Piece::Word(" start "),
-            Piece::Number(u64::from(run.0)),
+            Piece::Number(u64::from(start.run.0)),
             Piece::Word(" "),
-            Piece::Number(u64::from(req.0)),
+            Piece::Number(u64::from(start.req.0)),
             Piece::Word(" "),
-            Piece::Word(phase_word(slot.phase)),
+            Piece::Word(phase_word(start.slot.phase)),
             Piece::Word(" "),
-            Piece::Number(u64::from(slot.level)),
+            Piece::Number(u64::from(start.slot.level)),
             Piece::Word(" "),
-            Piece::Number(u64::from(slot.place)),
+            Piece::Number(u64::from(start.slot.place)),
             Piece::Word(" "),
-            Piece::Number(u64::from(reg.0)),
+            Piece::Number(u64::from(start.reg.0)),
             Piece::Word(" "),
-            Piece::Word(kind.word()),
+            Piece::Word(start.kind.word()),
             Piece::Word(" "),
-            Piece::Number(u64::from(attempt)),
+            Piece::Number(u64::from(start.attempt)),
         ],
         sink,
     )
 }
 
 /// Prints what a request is answered.
-fn print_reply<K: Sink>(req: Req, answer: Answer, sink: &mut K) -> Result<(), SinkFailed>
-    ensures ok { OnOk result (Gains (K.held sink.old) (K.held sink.new) (spaced (reply_words req answer))) }
-    ensures err { OnErr result (AppendsPart (K.held sink.old) (K.held sink.new) (spaced (reply_words req answer))) }
+fn print_reply<K: Sink>(reply: &Reply, sink: &mut K) -> Result<(), SinkFailed>
+    ensures ok { OnOk result (Gains (K.held sink.old) (K.held sink.new) (spaced (reply_words reply.now))) }
+    ensures err { OnErr result (AppendsPart (K.held sink.old) (K.held sink.new) (spaced (reply_words reply.now))) }
     ensures count { K.faults sink.old ≤ K.faults sink.new }
     ensures cause { OnErr result (Rose (K.faults sink.old) (K.faults sink.new)) }
 {
     print_pieces(
         &[
             Piece::Word(" reply "),
-            Piece::Number(u64::from(req.0)),
+            Piece::Number(u64::from(reply.req.0)),
             Piece::Word(" "),
-            Piece::Word(answer_word(answer)),
+            Piece::Word(answer_word(reply.answer)),
             Piece::Word(" "),
-            answer_piece(answer),
+            answer_piece(reply.answer),
         ],
         sink,
     )

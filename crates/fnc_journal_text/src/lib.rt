@@ -23,6 +23,3 @@ pub use form::Form;
 pub use paper::{head_line, print_entry, print_head, print_one};
 pub use printing::{Piece, print_pieces};
 pub use read::{read_entry, spelled_once};
-
-#[cfg(test)]
-mod tests;

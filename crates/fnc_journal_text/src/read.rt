@@ -21,7 +21,10 @@ use crate::values::{
     read_actions, read_allowed, read_cap, read_flag, read_optional, read_priority, read_target,
     read_text, read_u8, read_u32, read_u64,
 };
-use fnc_journal::{Confirmation, Definition, Described, Description, Ended, Entry, Event, LevelCleared, LevelSet, Refusal, Reg, Registered, Registration, Reply, Req, Request, Run, Slot, Start};
+use fnc_journal::{
+    Boxed, Confirmation, Definition, Described, Description, Ended, Entry, Event, LevelCleared,
+    LevelSet, Refusal, Reg, Registered, Registration, Reply, Req, Request, Run, Slot, Start,
+};
 use std::alloc::Global;
 
 /// What the words of a line are read as.
@@ -82,13 +85,14 @@ fn read_device(alloc: Global, line: &[u8]) -> Result<Event, EntryFault>
     let name = read_text(alloc, word(line, 3))?;
     let agent = read_text(alloc, word(line, 4))?;
     let definition = read_definition(alloc, line)?;
+    let registration = Registration {
+        name,
+        agent,
+        definition,
+    };
     Ok(Event::Device(Registered {
         reg: Reg(reg),
-        registration: Registration {
-            name,
-            agent,
-            definition,
-        },
+        registration: Boxed::new(alloc, registration)?,
     }))
 }
 
@@ -164,13 +168,14 @@ fn read_agent(alloc: Global, line: &[u8]) -> Result<Event, EntryFault>
     let name = read_text(alloc, word(line, 2))?;
     let target = read_optional(alloc, value(line, 4))?;
     let parameters = read_parameters(alloc, rest(line, 5))?;
+    let description = Description {
+        actions: read_actions(value(line, 3)),
+        parameters,
+        target,
+    };
     Ok(Event::Agent(Described {
         name,
-        description: Description {
-            actions: read_actions(value(line, 3)),
-            parameters,
-            target,
-        },
+        description: Boxed::new(alloc, description)?,
     }))
 }
 
@@ -185,7 +190,7 @@ fn read_ask(alloc: Global, line: &[u8]) -> Result<Event, EntryFault>
     let total = read_u64(word(line, 7))?;
     let coin = read_u64(word(line, 8))?;
     let scope = read_scope(word(line, 9))?;
-    Ok(Event::Ask(Request {
+    let request = Request {
         req: Req(req),
         lead: Req(lead),
         client,
@@ -194,7 +199,8 @@ fn read_ask(alloc: Global, line: &[u8]) -> Result<Event, EntryFault>
         total,
         coin,
         scope,
-    }))
+    };
+    Ok(Event::Ask(Boxed::new(alloc, request)?))
 }
 
 fn read_exited(line: &[u8]) -> Result<Event, EntryFault>
@@ -283,5 +289,6 @@ pub fn read_entry(alloc: Global, line: &[u8]) -> Result<Entry, EntryFault>
 
 /// No two entries within the bounds have the same line.
 pub fn spelled_once()
-    ensures { (d e : Entry) → IsTyped d → IsTrue (is_within d) → IsTyped e → IsTrue (is_within e) → line_of d ≡ line_of e → d ≡ e }
+    ensures { (d e : Entry) → IsTyped d → IsTrue (is_within d) → IsTyped e → IsTrue (is_within e)
+        → line_of d ≡ line_of e → d ≡ e }
 {}

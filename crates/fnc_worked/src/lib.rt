@@ -15,6 +15,8 @@ mod limits;
 mod many_requests;
 mod one_device;
 mod owed;
+#[cfg(test)]
+mod printed;
 mod queries;
 mod refusals;
 mod split_reboots;

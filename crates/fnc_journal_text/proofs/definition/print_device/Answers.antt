@@ -9,16 +9,16 @@ use Rattle.fnc_journal_text.proofs.definition.print_device.Goals as goal
 
 pub returns-in_err-print_nodes-clause-err : goal.returns-in_err-print_nodes-clause-err
 returns-in_err-print_nodes-clause-err g c =
-    let nodes = nodes_words c.args.reg c.args.registration.now in
-    let limits = limits_words c.args.registration.now.definition in
+    let nodes = nodes_words c.args.device.now in
+    let limits = limits_words c.args.device.now in
     on-err _ _
     (subst (AppendsPart (g.K.Sink.held c.args.sink.now) (g.K.Sink.held c.print_nodes.new.sink)) (sym (spaced-append nodes limits))
     (part-of_front _ _ (spaced nodes) (spaced limits) c.in_err-print_nodes.ensures.err))
 
 pub returns-clause-ok : goal.returns-clause-ok
 returns-clause-ok g c =
-    let nodes = nodes_words c.args.reg c.args.registration.now in
-    let limits = limits_words c.args.registration.now.definition in
+    let nodes = nodes_words c.args.device.now in
+    let limits = limits_words c.args.device.now in
     on-ok-then _ _ _
     (λ gained.
     subst (Gains (g.K.Sink.held c.args.sink.now) (g.K.Sink.held c.print_limits.new.sink)) (sym (spaced-append nodes limits))
@@ -27,8 +27,8 @@ returns-clause-ok g c =
 
 pub returns-clause-err : goal.returns-clause-err
 returns-clause-err g c =
-    let nodes = nodes_words c.args.reg c.args.registration.now in
-    let limits = limits_words c.args.registration.now.definition in
+    let nodes = nodes_words c.args.device.now in
+    let limits = limits_words c.args.device.now in
     on-err-then _ _ _
     (λ part.
     subst (AppendsPart (g.K.Sink.held c.args.sink.now) (g.K.Sink.held c.print_limits.new.sink)) (sym (spaced-append nodes limits))
