@@ -7,7 +7,7 @@ ghost use Rattle.fnc_journal.specs.Operations.{lead_of};
 ghost use Rattle.fnc_judge.specs.Led.{lead_here};
 
 use crate::past::Past;
-use fnc_journal::{Ended, Entry, Event, Kind, Registered, Registration, Reply, Request, Scope, Slot, Start};
+use fnc_journal::{Entry, Event, Kind, Registration, Scope, Start};
 use std::marker::Model;
 
 /// A request: what its entry says, and what lies before it.
@@ -29,31 +29,13 @@ impl<'a> Model for Asked<'a> {
     ghost view = { λ a. record { moment = a.moment; lead = a.lead; kind = a.kind; target = a.target.now; total = a.total; coin = a.coin; scope = a.scope; before = a.before } };
 }
 
-/// The start of a run.
-#[derive(Drop)]
-pub(crate) struct Started {
-    pub req: u32,
-    pub slot: Slot,
-    pub reg: u32,
-    pub kind: Kind,
-}
-
-impl Model for Started {
-    ghost Value = { Found.Started };
-
-    ghost view = { λ s. record { req = s.req; slot = s.slot; reg = s.reg; kind = s.kind } };
-}
-
 fn registration_here(event: &Event, reg: u32) -> Option<&Registration>
     ensures { option_copied result ≡ Found.registration_here reg event.now }
 {
     match event {
-        Event::Device(Registered {
-            reg: number,
-            registration,
-        }) => {
-            if reg == number.0 {
-                Some(registration)
+        Event::Device(device) => {
+            if reg == device.reg.0 {
+                Some(device.registration.get())
             } else {
                 None
             }
@@ -78,25 +60,17 @@ fn asked_here<'a>(entry: &'a Entry, before: Past<'a>, req: u32) -> Option<Asked<
     ensures { result ≡ Found.asked_here req entry.now.moment before.entry entry.now.event }
 {
     match &entry.event {
-        Event::Ask(Request {
-            req: number,
-            lead,
-            kind,
-            target,
-            total,
-            coin,
-            scope,
-            ..
-        }) => {
-            if req == number.0 {
+        Event::Ask(request) => {
+            let request = request.get();
+            if req == request.req.0 {
                 Some(Asked {
                     moment: entry.moment,
-                    lead: lead.0,
-                    kind: *kind,
-                    target: target.as_str(),
-                    total: *total,
-                    coin: *coin,
-                    scope: *scope,
+                    lead: request.lead.0,
+                    kind: request.kind,
+                    target: request.target.as_str(),
+                    total: request.total,
+                    coin: request.coin,
+                    scope: request.scope,
                     before,
                 })
             } else {
@@ -123,11 +97,14 @@ fn lead_in(event: &Event, req: u32) -> Option<u32>
     ensures { result ≡ lead_here req event.now }
 {
     match event {
-        Event::Ask(Request {
-            req: number,
-            lead,
-            ..
-        }) => { if req == number.0 { Some(lead.0) } else { None } }
+        Event::Ask(request) => {
+            let request = request.get();
+            if req == request.req.0 {
+                Some(request.lead.0)
+            } else {
+                None
+            }
+        }
         _ => None,
     }
 }
@@ -144,25 +121,13 @@ pub(crate) fn lead(past: &Past<'_>, req: u32) -> Option<u32>
     None
 }
 
-fn started_here(event: &Event, run: u32) -> Option<Started>
+fn started_here(event: &Event, run: u32) -> Option<Start>
     ensures { result ≡ Found.started_here run event.now }
 {
     match event {
-        Event::Start(Start {
-            run: number,
-            req,
-            slot,
-            reg,
-            kind,
-            ..
-        }) => {
-            if run == number.0 {
-                Some(Started {
-                    req: req.0,
-                    slot: *slot,
-                    reg: reg.0,
-                    kind: *kind,
-                })
+        Event::Start(start) => {
+            if run == start.run.0 {
+                Some(*start)
             } else {
                 None
             }
@@ -172,7 +137,7 @@ fn started_here(event: &Event, run: u32) -> Option<Started>
 }
 
 /// The start of a run.
-pub(crate) fn start_of(past: &Past<'_>, run: u32) -> Option<Started>
+pub(crate) fn start_of(past: &Past<'_>, run: u32) -> Option<Start>
     ensures { result ≡ Found.started run past.now }
 {
     for i in 0..past.len() {
@@ -187,7 +152,7 @@ fn is_exit_of(event: &Event, run: u32) -> bool
     ensures { result ≡ Found.is_exit_of run event.now }
 {
     match event {
-        Event::Exit(Ended { run: number, .. }) => run == number.0,
+        Event::Exit(ended) => run == ended.run.0,
         _ => false,
     }
 }
@@ -208,7 +173,7 @@ fn is_reply_to(event: &Event, req: u32) -> bool
     ensures { result ≡ Found.is_reply_to req event.now }
 {
     match event {
-        Event::Reply(Reply { req: number, .. }) => req == number.0,
+        Event::Reply(reply) => req == reply.req.0,
         _ => false,
     }
 }

@@ -6,11 +6,11 @@ ghost use Rattle.fnc_journal.specs.Found as Found;
 ghost use Rattle.fnc_journal.specs.Kept as Kept;
 ghost use Rattle.fnc_journal.specs.Same.{same_kind};
 
-use crate::found::{Started, request, start_of};
+use crate::found::{request, start_of};
 use crate::past::Past;
 use crate::seen::is_success;
 use crate::task::Device;
-use fnc_journal::{Ended, Entry, Event, HostCheck, Kind};
+use fnc_journal::{Entry, Event, HostCheck, Kind, Start};
 use std::marker::Model;
 
 /// When a list said whether a node is in it.
@@ -46,25 +46,25 @@ fn is_list(kind: Kind) -> bool
     }
 }
 
-fn is_list_run(past: &Past<'_>, reg: u32, target: &str, start: &Started) -> bool
+fn is_list_run(past: &Past<'_>, reg: u32, target: &str, start: &Start) -> bool
     ensures { result ≡ Kept.is_list_run reg target.now past.now start.now }
 {
-    reg == start.reg && is_list(start.kind) && is_of_target(past, start.req, target)
+    reg == start.reg.0 && is_list(start.kind) && is_of_target(past, start.req.0, target)
 }
 
 fn listing_here(past: &Past<'_>, reg: u32, target: &str, entry: &Entry) -> Option<Listing>
     ensures { result ≡ Kept.listing_here reg target.now entry.now.moment past.now entry.now.event }
 {
     match &entry.event {
-        Event::Exit(Ended { run, exit, listed }) => {
-            if !is_success(Kind::List, *exit) {
+        Event::Exit(ended) => {
+            if !is_success(Kind::List, ended.exit) {
                 return None;
             }
-            let start = start_of(past, run.0)?;
+            let start = start_of(past, ended.run.0)?;
             if is_list_run(past, reg, target, &start) {
                 Some(Listing {
                     moment: entry.moment,
-                    listed: *listed,
+                    listed: ended.listed,
                 })
             } else {
                 None

@@ -8,7 +8,7 @@ ghost use Rattle.fnc_judge.specs.Indices.{level_step, oldest_with, top, top_here
 
 use crate::past::Past;
 use crate::registered::least_of;
-use fnc_journal::{Event, LevelCleared, LevelSet, LevelTarget, Names};
+use fnc_journal::{Event, LevelTarget, Names};
 use std::marker::Model;
 
 /// What levels are for: a node's name or a pattern.
@@ -93,22 +93,19 @@ fn level_after<'a>(
     ensures { result ≡ level_step target.now index at event.now earlier.entry }
 {
     match event {
-        Event::Level(LevelSet {
-            target: other,
-            index: number,
-            devices,
-        }) => {
-            if target.is(other) && index == u32::from(*number) {
-                Some(Level { at, index, devices })
+        Event::Level(set) => {
+            if target.is(&set.target) && index == u32::from(set.index) {
+                Some(Level {
+                    at,
+                    index,
+                    devices: &set.devices,
+                })
             } else {
                 earlier
             }
         }
-        Event::LevelGone(LevelCleared {
-            target: other,
-            index: number,
-        }) => {
-            if target.is(other) && index == u32::from(*number) {
+        Event::LevelGone(cleared) => {
+            if target.is(&cleared.target) && index == u32::from(cleared.index) {
                 None
             } else {
                 earlier
@@ -133,13 +130,9 @@ fn top_here_of(event: &Event, target: &Target<'_>) -> u32
     ensures { result ≡ top_here target.now event.now }
 {
     match event {
-        Event::Level(LevelSet {
-            target: other,
-            index,
-            ..
-        }) => {
-            if target.is(other) {
-                u32::from(*index) + 1
+        Event::Level(set) => {
+            if target.is(&set.target) {
+                u32::from(set.index) + 1
             } else {
                 0
             }

@@ -12,9 +12,9 @@ fn current_after(earlier: Option<u32>, event: &Event, name: &str) -> Option<u32>
     ensures { result ≡ Registered.current_after name.now event.now earlier }
 {
     match event {
-        Event::Device(Registered { reg, registration }) => {
-            if registration.name.is(name) {
-                Some(reg.0)
+        Event::Device(device) => {
+            if device.registration.get().name.is(name) {
+                Some(device.reg.0)
             } else {
                 earlier
             }
@@ -55,9 +55,9 @@ fn named_here(event: &Event, name: &str) -> Option<u32>
     ensures { result ≡ Registered.named_here name.now event.now }
 {
     match event {
-        Event::Device(Registered { reg, registration }) => {
-            if registration.name.is(name) {
-                Some(reg.0)
+        Event::Device(device) => {
+            if device.registration.get().name.is(name) {
+                Some(device.reg.0)
             } else {
                 None
             }

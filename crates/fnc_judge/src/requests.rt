@@ -16,14 +16,14 @@ use crate::found::{is_answered, request};
 use crate::past::Past;
 use crate::pursued::Operation;
 use crate::task::Task;
-use fnc_journal::{Confirmation, Event, Kind, Phase, Request};
+use fnc_journal::{Event, Kind, Phase};
 
 fn confirms(operation: &Operation<'_>, before: &Past<'_>, event: &Event) -> bool
     ensures { result ≡ Dues.confirms (Pursued.operation operation.now) before.now event.now }
 {
     match event {
-        Event::Confirm(Confirmation { target, .. }) => {
-            target.is(operation.target()) && request(before, operation.req()).is_some()
+        Event::Confirm(confirmation) => {
+            confirmation.target.is(operation.target()) && request(before, operation.req()).is_some()
         }
         _ => false,
     }
@@ -75,11 +75,14 @@ fn request_here(event: &Event, req: u32) -> Option<u32>
     ensures { result ≡ Operations.request_here req event.now }
 {
     match event {
-        Event::Ask(Request {
-            req: number,
-            lead,
-            ..
-        }) => { if req == lead.0 { Some(number.0) } else { None } }
+        Event::Ask(request) => {
+            let request = request.get();
+            if req == request.lead.0 {
+                Some(request.req.0)
+            } else {
+                None
+            }
+        }
         _ => None,
     }
 }
@@ -130,7 +133,14 @@ fn operation_here(event: &Event) -> Option<u32>
     ensures { result ≡ Operations.operation_here event.now }
 {
     match event {
-        Event::Ask(Request { req, lead, .. }) => { if req.0 == lead.0 { Some(req.0) } else { None } }
+        Event::Ask(request) => {
+            let request = request.get();
+            if request.req.0 == request.lead.0 {
+                Some(request.req.0)
+            } else {
+                None
+            }
+        }
         _ => None,
     }
 }

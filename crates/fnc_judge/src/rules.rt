@@ -12,7 +12,7 @@ ghost use Rattle.fnc_journal.specs.Same as Same;
 ghost use Rattle.fnc_journal.specs.Startable as Starts;
 ghost use Rattle.fnc_judge.specs.Courses.{answer_of};
 ghost use Rattle.fnc_judge.specs.Pursued as Pursued;
-ghost use Rattle.fnc_judge.specs.Testing.{is_start_with, moment_by, pending_after, runs_here};
+ghost use Rattle.fnc_judge.specs.Testing.{is_start_with, lead_for, moment_by, pending_after, replied_as, runs_here, started_as};
 
 use crate::course::Due;
 use crate::found::{has_exit, is_answered, lead, registration, request, start_of};
@@ -26,7 +26,7 @@ use crate::requests::{
 };
 use crate::startable::{Startable, first};
 use crate::survey::pattern_at;
-use fnc_journal::{Answer, Ended, Entry, Event, Kind, LevelCleared, Registered, Reply, Request, Rule, Scope, Slot, Start};
+use fnc_journal::{Answer, Entry, Event, Kind, Reply, Request, Rule, Scope, Slot, Start};
 use std::marker::Model;
 
 /// The last entry.
@@ -98,37 +98,38 @@ fn is_operation(past: &Past<'_>, req: u32) -> bool
     operation_of(past, req).is_some()
 }
 
+fn is_request_in_order(request: &Request, past: &Past<'_>) -> bool
+    ensures { result ≡ Lawful.in_order (Event.Ask request.now) past.now }
+{
+    request.req.0 == counted(past).asks
+        && may_ask(request.kind)
+        && 1 <= request.total
+        && request.total <= 86_400_000
+        && is_in_place(past, request.scope, request.target.as_str())
+}
+
+fn is_start_in_order(start: &Start, past: &Past<'_>) -> bool
+    ensures { result ≡ Lawful.in_order (Event.Start start.now) past.now }
+{
+    start.run.0 == counted(past).starts
+        && is_operation(past, start.req.0)
+        && registration(past, start.reg.0).is_some()
+}
+
 /// Whether the numbers, references and scope of an entry are in place.
 pub(crate) fn in_order(event: &Event, past: &Past<'_>) -> bool
     ensures { result ≡ Lawful.in_order event.now past.now }
 {
     match event {
-        Event::Device(Registered { reg, .. }) => reg.0 == counted(past).devices,
+        Event::Device(device) => device.reg.0 == counted(past).devices,
         Event::Gone { reg } => is_current(past, reg.0),
-        Event::LevelGone(LevelCleared { target, index }) => {
-            has_level(past, &Target::of(target), u32::from(*index))
+        Event::LevelGone(cleared) => {
+            has_level(past, &Target::of(&cleared.target), u32::from(cleared.index))
         }
-        Event::Ask(Request {
-            req,
-            kind,
-            target,
-            total,
-            scope,
-            ..
-        }) => {
-            req.0 == counted(past).asks
-                && may_ask(*kind)
-                && 1 <= *total
-                && *total <= 86_400_000
-                && is_in_place(past, *scope, target.as_str())
-        }
-        Event::Exit(Ended { run, .. }) => start_of(past, run.0).is_some(),
-        Event::Start(Start { run, req, reg, .. }) => {
-            run.0 == counted(past).starts
-                && is_operation(past, req.0)
-                && registration(past, reg.0).is_some()
-        }
-        Event::Reply(Reply { req, .. }) => request(past, req.0).is_some(),
+        Event::Ask(request) => is_request_in_order(request.get(), past),
+        Event::Exit(ended) => start_of(past, ended.run.0).is_some(),
+        Event::Start(start) => is_start_in_order(start, past),
+        Event::Reply(reply) => request(past, reply.req.0).is_some(),
         _ => true,
     }
 }
@@ -153,7 +154,7 @@ pub(crate) fn exit(entry: &Entry, past: &Past<'_>) -> bool
     ensures { result ≡ Lawful.exit entry.now past.now }
 {
     match &entry.event {
-        Event::Exit(Ended { run, .. }) => is_alive(past, run.0),
+        Event::Exit(ended) => is_alive(past, ended.run.0),
         _ => true,
     }
 }
@@ -162,11 +163,7 @@ fn is_run_of(event: &Event, req: u32, slot: Slot) -> bool
     ensures { result ≡ runs_here req slot event.now }
 {
     match event {
-        Event::Start(Start {
-            req: other,
-            slot: here,
-            ..
-        }) => req == other.0 && slot.is(*here),
+        Event::Start(start) => req == start.req.0 && slot.is(start.slot),
         _ => false,
     }
 }
@@ -194,31 +191,23 @@ fn runs(past: &Past<'_>, req: u32, slot: Slot) -> u32
 }
 
 impl<'a> Startable<'a> {
-    fn is_with(&self, req: u32, slot: Slot, reg: u32, kind: Kind) -> bool
-        ensures { result ≡ is_start_with req slot reg kind self.now }
+    fn is_with(&self, start: &Start) -> bool
+        ensures { result ≡ is_start_with start.now self.now }
     {
-        req == self.operation.req()
-            && self.task.is_of(slot)
-            && reg == self.task.reg
-            && same_kind_as(kind, self.task.kind)
+        start.req.0 == self.operation.req()
+            && self.task.is_of(start.slot)
+            && start.reg.0 == self.task.reg
+            && same_kind_as(start.kind, self.task.kind)
     }
 }
 
-fn is_start_of(
-    past: &Past<'_>,
-    req: u32,
-    slot: Slot,
-    reg: u32,
-    kind: Kind,
-    attempt: u8,
-    first: Option<Startable<'_>>,
-) -> bool
-    ensures { result ≡ Lawful.is_start_of req slot reg kind attempt past.now first.entry }
+fn is_start_of(past: &Past<'_>, start: &Start, first: Option<Startable<'_>>) -> bool
+    ensures { result ≡ started_as start.now past.now first.entry }
 {
     match first {
         Some(first) => {
-            first.is_with(req, slot, reg, kind)
-                && u64::from(attempt) == u64::from(runs(past, req, slot)) + 1
+            first.is_with(start)
+                && u64::from(start.attempt) == u64::from(runs(past, start.req.0, start.slot)) + 1
         }
         None => false,
     }
@@ -229,22 +218,7 @@ pub(crate) fn start(entry: &Entry, past: &Past<'_>) -> bool
     ensures { result ≡ Lawful.start entry.now past.now }
 {
     match &entry.event {
-        Event::Start(Start {
-            req,
-            slot,
-            reg,
-            kind,
-            attempt,
-            ..
-        }) => is_start_of(
-            past,
-            req.0,
-            *slot,
-            reg.0,
-            *kind,
-            *attempt,
-            first(past, entry.moment),
-        ),
+        Event::Start(start) => is_start_of(past, start, first(past, entry.moment)),
         _ => true,
     }
 }
@@ -269,12 +243,12 @@ fn pending_of(past: &Past<'_>, entry: &Entry) -> Option<Pending>
     ensures { result ≡ Lawful.pending_of entry.now.moment entry.now.event past.now }
 {
     match &entry.event {
-        Event::Reply(Reply { req, answer }) => {
-            let operation = lead(past, req.0)?;
+        Event::Reply(reply) => {
+            let operation = lead(past, reply.req.0)?;
             if is_open(past, operation) {
                 Some(Pending {
                     operation,
-                    answer: *answer,
+                    answer: reply.answer,
                     moment: entry.moment,
                 })
             } else {
@@ -319,9 +293,9 @@ fn continues(pending: Option<Pending>, entry: &Entry, past: &Past<'_>) -> bool
 {
     match (pending, &entry.event) {
         (None, _) => true,
-        (Some(pending), Event::Reply(Reply { req, answer })) => {
-            lead(past, req.0) == Some(pending.operation)
-                && same_answer(*answer, pending.answer)
+        (Some(pending), Event::Reply(reply)) => {
+            lead(past, reply.req.0) == Some(pending.operation)
+                && same_answer(reply.answer, pending.answer)
                 && entry.moment == pending.moment
         }
         (Some(_), _) => false,
@@ -332,7 +306,7 @@ fn is_first_reply(event: &Event, past: &Past<'_>) -> bool
     ensures { result ≡ Lawful.is_first_reply event.now past.now }
 {
     match event {
-        Event::Reply(Reply { req, .. }) => !is_answered(past, req.0),
+        Event::Reply(reply) => !is_answered(past, reply.req.0),
         _ => true,
     }
 }
@@ -375,25 +349,24 @@ fn is_due_answer(past: &Past<'_>, moment: u64, answer: Answer, operation: &Opera
 fn is_reply_of(
     past: &Past<'_>,
     moment: u64,
-    req: u32,
-    answer: Answer,
+    reply: &Reply,
     operation: Option<Operation<'_>>,
 ) -> bool
-    ensures { result ≡ Lawful.is_reply_of req answer moment past.now (option_map Pursued.operation operation.entry) }
+    ensures { result ≡ replied_as reply.now moment past.now (option_map Pursued.operation operation.entry) }
 {
     match operation {
         Some(operation) => {
-            first_waiting(past, operation.req()) == Some(req)
-                && is_due_answer(past, moment, answer, &operation)
+            first_waiting(past, operation.req()) == Some(reply.req.0)
+                && is_due_answer(past, moment, reply.answer, &operation)
         }
         None => false,
     }
 }
 
-fn is_reply_due(past: &Past<'_>, moment: u64, req: u32, answer: Answer) -> bool
-    ensures { result ≡ Lawful.is_reply_of req answer moment past.now (Operations.first_due past.now moment) }
+fn is_reply_due(past: &Past<'_>, moment: u64, reply: &Reply) -> bool
+    ensures { result ≡ replied_as reply.now moment past.now (Operations.first_due past.now moment) }
 {
-    is_reply_of(past, moment, req, answer, first_due(past, moment))
+    is_reply_of(past, moment, reply, first_due(past, moment))
 }
 
 /// A reply is the one that is due.
@@ -401,7 +374,7 @@ pub(crate) fn reply(entry: &Entry, past: &Past<'_>) -> bool
     ensures { result ≡ Lawful.reply entry.now past.now }
 {
     match &entry.event {
-        Event::Reply(Reply { req, answer }) => is_reply_due(past, entry.moment, req.0, *answer),
+        Event::Reply(reply) => is_reply_due(past, entry.moment, reply),
         _ => true,
     }
 }
@@ -415,23 +388,21 @@ fn number_of(operation: Option<Operation<'_>>, req: u32) -> u32
     }
 }
 
-fn lead_wanted(past: &Past<'_>, moment: u64, kind: Kind, target: &str, req: u32) -> u32
-    ensures { result ≡ unwrap_or (option_map (λ o. o.req) (Operations.joined past.now moment kind target.now)) req }
+fn lead_wanted(past: &Past<'_>, moment: u64, request: &Request) -> u32
+    ensures { result ≡ lead_for request.now moment past.now }
 {
-    number_of(joined(past, moment, kind, target), req)
+    let operation = joined(past, moment, request.kind, request.target.as_str());
+    number_of(operation, request.req.0)
 }
 
 fn leads(entry: &Entry, past: &Past<'_>) -> bool
     ensures { result ≡ Lawful.leads entry.now.event entry.now.moment past.now }
 {
     match &entry.event {
-        Event::Ask(Request {
-            req,
-            lead,
-            kind,
-            target,
-            ..
-        }) => lead.0 == lead_wanted(past, entry.moment, *kind, target.as_str(), req.0),
+        Event::Ask(request) => {
+            let request = request.get();
+            request.lead.0 == lead_wanted(past, entry.moment, request)
+        }
         _ => true,
     }
 }

@@ -36,15 +36,9 @@ fn slot_after(earlier: Option<Slot>, event: &Event, req: u32, run: u32) -> Optio
     ensures { result ≡ Missing.or_here earlier (begun_slot req run event.now) }
 {
     match (earlier, event) {
-        (
-            None,
-            Event::Start(Start {
-                run: number,
-                req: other,
-                slot,
-                ..
-            }),
-        ) if req == other.0 && run == number.0 => Some(*slot),
+        (None, Event::Start(start)) if req == start.req.0 && run == start.run.0 => {
+            Some(start.slot)
+        }
         _ => earlier,
     }
 }
@@ -108,13 +102,13 @@ impl Seen {
     }
 
     /// With one more start.
-    fn begun(self, task: &Task<'_>, moment: u64, run: u32, slot: Slot) -> Seen
-        ensures { result ≡ seen_begun task.now self moment run slot }
+    fn begun(self, task: &Task<'_>, moment: u64, start: &Start) -> Seen
+        ensures { result ≡ seen_begun task.now self moment start.now.run.0 start.now.slot }
     {
-        if task.is_for(slot) {
+        if task.is_for(start.slot) {
             Seen {
                 begun: first_of(self.begun, moment),
-                last: Last::Alive(run),
+                last: Last::Alive(start.run.0),
                 ..self
             }
         } else {
@@ -152,48 +146,40 @@ impl Seen {
     }
 
     /// With one more exit in time.
-    fn in_time(self, task: &Task<'_>, moment: u64, exit: Exit, listed: bool) -> Seen
+    fn in_time(self, task: &Task<'_>, moment: u64, ended: &Ended) -> Seen
         requires { self.failed < 2 ^ 32 - 1 }
-        ensures { result ≡ seen_in_time task.now self moment exit listed }
+        ensures { result ≡ seen_in_time task.now self moment ended.now.exit ended.now.listed }
     {
-        if is_success(task.kind, exit) {
-            self.succeeded(moment, listed)
+        if is_success(task.kind, ended.exit) {
+            self.succeeded(moment, ended.listed)
         } else {
             self.failed(task.tries(), moment)
         }
     }
 
     /// With one more exit of the slot.
-    fn exited(self, task: &Task<'_>, over: u128, moment: u64, exit: Exit, listed: bool) -> Seen
+    fn exited(self, task: &Task<'_>, over: u128, moment: u64, ended: &Ended) -> Seen
         requires { self.failed < 2 ^ 32 - 1 }
-        ensures { result ≡ seen_exit task.now over self moment exit listed }
+        ensures { result ≡ seen_exit task.now over self moment ended.now.exit ended.now.listed }
     {
         if is_in_time(task, over, self.begun, moment) {
-            self.in_time(task, moment, exit, listed)
+            self.in_time(task, moment, ended)
         } else {
             self
         }
     }
 
     /// With one more exit.
-    fn ended(
-        self,
-        task: &Task<'_>,
-        over: u128,
-        moment: u64,
-        slot: Slot,
-        exit: Exit,
-        listed: bool,
-    ) -> Seen
+    fn ended(self, task: &Task<'_>, over: u128, moment: u64, slot: Slot, ended: &Ended) -> Seen
         requires { self.failed < 2 ^ 32 - 1 }
-        ensures { result ≡ seen_ended task.now over self moment slot exit listed }
+        ensures { result ≡ seen_ended task.now over self moment slot ended.now.exit ended.now.listed }
     {
         if task.is_for(slot) {
             let seen = Seen {
                 last: Last::EndedAt(moment),
                 ..self
             };
-            seen.exited(task, over, moment, exit, listed)
+            seen.exited(task, over, moment, ended)
         } else {
             self
         }
@@ -205,20 +191,15 @@ impl Seen {
         ensures { result ≡ seen_with task.now over self (Acts.act_here req entry.now.moment (Acts.acts req before.now) entry.now.event) }
     {
         match &entry.event {
-            Event::Start(Start {
-                run,
-                req: other,
-                slot,
-                ..
-            }) => {
-                if req == other.0 {
-                    self.begun(task, entry.moment, run.0, *slot)
+            Event::Start(start) => {
+                if req == start.req.0 {
+                    self.begun(task, entry.moment, start)
                 } else {
                     self
                 }
             }
-            Event::Exit(Ended { run, exit, listed }) => match slot_of_run(before, req, run.0) {
-                Some(slot) => self.ended(task, over, entry.moment, slot, *exit, *listed),
+            Event::Exit(ended) => match slot_of_run(before, req, ended.run.0) {
+                Some(slot) => self.ended(task, over, entry.moment, slot, ended),
                 None => self,
             },
             _ => self,
@@ -310,7 +291,7 @@ fn is_start_for(event: &Event, req: u32) -> bool
     ensures { result ≡ starts_for req event.now }
 {
     match event {
-        Event::Start(Start { req: other, .. }) => req == other.0,
+        Event::Start(start) => req == start.req.0,
         _ => false,
     }
 }

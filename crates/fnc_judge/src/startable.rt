@@ -13,7 +13,7 @@ use crate::pursued::Operation;
 use crate::registered::lane_of;
 use crate::requests::opened_by;
 use crate::task::Task;
-use fnc_journal::Event;
+use fnc_journal::{Event, Start};
 use std::marker::Model;
 
 /// A start that may be made: an operation, its standing slot, and since when that is ready.
@@ -33,17 +33,17 @@ impl<'a> Model for Startable<'a> {
     ghost view = { λ s. record { operation = Pursued.operation s.operation; task = s.task; ready = s.ready } };
 }
 
-fn counts_by(past: &Past<'_>, number: u32, run: u32, reg: u32) -> bool
-    ensures { result ≡ counts past.now number (record { run = run; reg = reg }) }
+fn counts_by(past: &Past<'_>, number: u32, start: &Start) -> bool
+    ensures { result ≡ counts past.now number (record { run = start.now.run.0; reg = start.now.reg.0 }) }
 {
-    !has_exit(past, run) && lane_of(past, reg) == number
+    !has_exit(past, start.run.0) && lane_of(past, start.reg.0) == number
 }
 
 fn is_alive_in(past: &Past<'_>, number: u32, event: &Event) -> bool
     ensures { result ≡ counts_here past.now number event.now }
 {
     match event {
-        Event::Start(Start { run, reg, .. }) => counts_by(past, number, run.0, reg.0),
+        Event::Start(start) => counts_by(past, number, start),
         _ => false,
     }
 }

@@ -15,7 +15,7 @@ use crate::level::{Level, Target, level_of, top_of};
 use crate::past::Past;
 use crate::pursued::Operation;
 use crate::task::{Task, act_task, on_task, placed_at};
-use fnc_journal::{Event, Kind, LevelSet, LevelTarget, Scope, Text};
+use fnc_journal::{Event, Kind, LevelTarget, Scope, Text};
 use std::marker::Model;
 
 /// A level that is not lost: its number, the slot at which it stands, and whether it is done.
@@ -297,10 +297,10 @@ fn pattern_of(event: &Event) -> Option<&str>
     ensures { option_copied result ≡ Levels.pattern_here event.now }
 {
     match event {
-        Event::Level(LevelSet {
-            target: LevelTarget::Pattern(text),
-            ..
-        }) => Some(text.as_str()),
+        Event::Level(set) => match &set.target {
+            LevelTarget::Name(_) => None,
+            LevelTarget::Pattern(text) => Some(text.as_str()),
+        },
         _ => None,
     }
 }

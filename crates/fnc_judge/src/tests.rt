@@ -1,7 +1,11 @@
 // Lawful journals, and journals with one entry that breaks a rule.
 
 use crate::{Verdict, judge};
-use fnc_journal::{Actions, Allowed, Answer, Base, Definition, Ended, Entry, Event, Exit, HostCheck, Journal, Kind, LevelSet, LevelTarget, Names, NoMemory, Pairs, Phase, Reg, Registered, Registration, Reply, Req, Request, Rule, Run, Scope, Slot, Start, Text};
+use fnc_journal::{
+    Actions, Allowed, Answer, Base, Boxed, Definition, Ended, Entry, Event, Exit, HostCheck,
+    Journal, Kind, LevelSet, LevelTarget, Names, NoMemory, Pairs, Phase, Reg, Registered,
+    Registration, Reply, Req, Request, Rule, Run, Scope, Slot, Start, Text,
+};
 use std::alloc::Global;
 use std::test::Fail;
 
@@ -53,7 +57,7 @@ fn device(alloc: Global, reg: u32, name: &str) -> Result<Event, NoMemory> {
     let registration = registration(alloc, name)?;
     Ok(Event::Device(Registered {
         reg: Reg(reg),
-        registration,
+        registration: Boxed::new(alloc, registration)?,
     }))
 }
 
@@ -80,7 +84,7 @@ fn ask(
 ) -> Result<Event, NoMemory> {
     let client = Text::new(alloc, "c1")?;
     let target = Text::new(alloc, target)?;
-    Ok(Event::Ask(Request {
+    let request = Request {
         req: Req(req),
         lead: Req(lead),
         client,
@@ -89,7 +93,8 @@ fn ask(
         total: 600_000,
         coin: 0,
         scope,
-    }))
+    };
+    Ok(Event::Ask(Boxed::new(alloc, request)?))
 }
 
 /// A start of a slot of level 1, whose device has this place and registration.
