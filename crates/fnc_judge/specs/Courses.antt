@@ -7,7 +7,7 @@ use Rattle.fnc_journal.specs.Acts.{Act}
 use Rattle.fnc_journal.specs.Standing.{capable_query, ranks}
 use Rattle.fnc_judge.specs.declared.course.Due.{Due}
 use Rattle.fnc_journal.specs.declared.entry.Scope.{Scope}
-use Rattle.fnc_judge.specs.Pursued.{Pursued, operation, candidates_of}
+use Rattle.fnc_search.specs.Pursued.{Pursued, operation, candidates_of}
 use Rattle.fnc_judge.specs.Tours.{Gathered, nothing, gathered_any, gathered_all}
 use Rattle.fnc_judge.specs.Surveys.{Survey, Kept, none, surveyed, surveyed_all}
 

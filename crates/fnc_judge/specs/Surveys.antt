@@ -2,10 +2,8 @@
 use Rattle.std.specs.Prelude.{ℕ, List, [], ◌∷◌, Bool, true, false, ◌||◌, ◌&&◌, if◌then◌else◌, nat_le, max, map, Option, Some, None, is_none}
 use Rattle.std.specs.Option.{option_or}
 use Rattle.fnc_journal.specs.declared.entry.Kind.{Kind}
-use Rattle.fnc_journal.specs.declared.entry.LevelTarget.{LevelTarget}
-use Rattle.fnc_journal.specs.declared.entry.Scope.{Scope}
 use Rattle.fnc_journal.specs.History.{History}
-use Rattle.fnc_journal.specs.Levels.{Level, pattern_at}
+use Rattle.fnc_journal.specs.Levels.{Level}
 use Rattle.fnc_journal.specs.Plan.{plan_level}
 use Rattle.fnc_journal.specs.Slots.{Task, Rank, Operation, rank_of}
 use Rattle.fnc_journal.specs.Acts.{Act}
@@ -72,12 +70,6 @@ rank_over kind before l = record {
   firsts = if is_unfit kind before l.devices then [] else firsts_over (is_split_over kind l.devices) kind before l.index 0 l.devices;
   ons = if is_unfit kind before l.devices then [] else (if is_split_over kind l.devices then ons_over kind before l.index 0 l.devices else []);
 }
-
--- what the levels that a scope speaks of are for
-abbrev pub scoped_target : Scope → List ℕ → History → Option LevelTarget
-scoped_target Scope.Nothing target h = None
-scoped_target Scope.Name target h = Some (LevelTarget.Name target)
-scoped_target (Scope.Pattern n) target h = elim (pattern_at n h) [ None ↦ None | Some text ↦ Some (LevelTarget.Pattern text) ]
 
 -- the levels of an operation, as its slots are
 abbrev pub ranks_for : Kind → History → List Level → List Rank

@@ -2,25 +2,23 @@
 
 ghost use Rattle.std.specs.Prelude.{◌≡◌, ◌<◌, ◌^◌, ◌-◌, ◌&&◌, [], ◌∷◌, Some, None, is_some, option_map, max};
 ghost use Rattle.fnc_journal.specs.Acts as Acts;
-ghost use Rattle.fnc_journal.specs.Device as Devices;
 ghost use Rattle.fnc_journal.specs.Due as Dues;
 ghost use Rattle.fnc_journal.specs.Plan as Plan;
 ghost use Rattle.fnc_journal.specs.Slots as Slots;
 ghost use Rattle.fnc_journal.specs.Standing as Standing;
 ghost use Rattle.fnc_judge.specs.Courses as Courses;
-ghost use Rattle.fnc_judge.specs.Pursued.{candidates_of};
-ghost use Rattle.fnc_judge.specs.Pursued as Pursued;
-ghost use Rattle.fnc_judge.specs.Seen.{last_of};
+ghost use Rattle.fnc_search.specs.Pursued.{candidates_of};
+ghost use Rattle.fnc_search.specs.Pursued as Pursued;
+ghost use Rattle.fnc_search.specs.Seen.{last_of};
 ghost use Rattle.fnc_judge.specs.Surveys as Surveys;
 
-use crate::candidates::{Candidate, next_candidate, query_of};
 use crate::gathered::Gathered;
-use crate::past::Past;
-use crate::pursued::Operation;
-use crate::seen::{Last, looked_at};
 use crate::survey::{Survey, survey_levels};
-use crate::task::{Device, Task, act_task, device_of};
 use fnc_journal::{Kind, Phase, Scope};
+use fnc_search::{
+    Candidate, Device, Last, Operation, Past, Task, act_task, device_of, looked_at, next_candidate,
+    query_of,
+};
 use std::marker::Model;
 
 /// What is gathered of the queries, and of the capable candidates as levels, of which the next has
@@ -40,12 +38,12 @@ impl<'a> Model for Course<'a> {
     ghost view = { λ c. record { queries = c.queries; survey = c.survey; index = c.index } };
 }
 
-#[tactic(auto, using(crate::proofs::Looks::answered_same))]
+#[tactic(auto, using(fnc_search::proofs::Looks::answered_same))]
 fn is_answered(operation: &Operation<'_>, past: &Past<'_>, task: &Task<'_>) -> bool
     ensures { result ≡ Standing.capable_query (Pursued.operation operation.now) (Acts.acts operation.now.req past.now) (Some task.now) }
 {
     let seen = looked_at(past, operation.req(), task, operation.over());
-    capable_by(task.kind, seen.listed, seen.is_answered(task))
+    capable_by(task.kind(), seen.listed, seen.is_answered(task))
 }
 
 fn is_capable(operation: &Operation<'_>, past: &Past<'_>, query: &Option<Task<'_>>) -> bool
@@ -148,7 +146,7 @@ impl<'a> Course<'a> {
         ensures { result ≡ Courses.coursed_any (Pursued.operation operation.now) moment (Acts.acts operation.now.req past.now) self.entry (option_map (Slots.queried place (Plan.candidate (Pursued.wanted operation.now) operation.now.asked.before candidate.now).query) (Slots.device_of operation.now.asked.before (Plan.candidate (Pursued.wanted operation.now) operation.now.asked.before candidate.now).reg)) }
     {
         let query = query_of(operation, candidate);
-        match device_of(&operation.before(), candidate.reg) {
+        match device_of(&operation.before(), candidate.reg()) {
             Some(device) => {
                 let task = queried(place, query, &device);
                 self.with(operation, moment, past, &device, task)
@@ -174,7 +172,7 @@ fn candidates<'a>(operation: &Operation<'a>, moment: u64, past: &Past<'_>) -> Co
                     moment,
                     past,
                     place as usize,
-                    &candidate.device,
+                    candidate.device(),
                 );
             }
             None => return course,
@@ -319,13 +317,6 @@ fn since(operation: &Operation<'_>, moment: u64, past: &Past<'_>) -> u128
     since_by(&course_of(operation, moment, past), operation.begin())
 }
 
-fn delay(operation: &Operation<'_>, task: &Task<'_>) -> u64
-    ensures { result ≡ Devices.delay task.now.definition task.now.kind operation.now.asked.target operation.now.asked.coin }
-{
-    task.definition
-        .delay_of(task.kind, operation.target(), operation.coin())
-}
-
 /// When the next try of a slot is ready.
 pub(crate) fn ready(
     operation: &Operation<'_>,
@@ -350,8 +341,8 @@ fn ready_after(
 {
     match last {
         Last::NoRun => {
-            let delay = u128::from(delay(operation, task));
-            Some(since(operation, moment, past) + delay)
+            let delay = task.delay(operation.target(), operation.coin());
+            Some(since(operation, moment, past) + u128::from(delay))
         }
         Last::Alive(_) => None,
         Last::EndedAt(at) => Some(u128::from(at)),

@@ -3,13 +3,10 @@
 ghost use Rattle.std.specs.Prelude.{◌≡◌, if◌then◌else◌, Some, None};
 ghost use Rattle.std.specs.Option.{option_or};
 ghost use Rattle.fnc_journal.specs.Acts.{acts};
-ghost use Rattle.fnc_judge.specs.Pursued as Pursued;
+ghost use Rattle.fnc_search.specs.Pursued as Pursued;
 ghost use Rattle.fnc_judge.specs.Tours as Tours;
 
-use crate::past::Past;
-use crate::pursued::Operation;
-use crate::seen::{Seen, looked_at};
-use crate::task::Task;
+use fnc_search::{Operation, Past, Seen, Task, looked_at};
 use std::marker::Model;
 
 /// The first slot that is not confirmed, the first that is not concluded, whether one is spent and

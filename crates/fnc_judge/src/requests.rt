@@ -8,15 +8,13 @@ ghost use Rattle.fnc_journal.specs.Missing.{first_of};
 ghost use Rattle.fnc_journal.specs.Operations as Operations;
 ghost use Rattle.fnc_journal.specs.Same.{same_kind};
 ghost use Rattle.fnc_judge.specs.Courses.{answer_of};
-ghost use Rattle.fnc_judge.specs.Opened.{found_after, opened, opens, pursued_of, waiting, waiting_here};
-ghost use Rattle.fnc_judge.specs.Pursued as Pursued;
+ghost use Rattle.fnc_judge.specs.Opened.{found_after, opened, opens, waiting, waiting_here};
+ghost use Rattle.fnc_search.specs.Pursued.{pursued_of};
+ghost use Rattle.fnc_search.specs.Pursued as Pursued;
 
 use crate::course::{Due, due_by_acts, standing};
-use crate::found::{is_answered, request};
-use crate::past::Past;
-use crate::pursued::Operation;
-use crate::task::Task;
 use fnc_journal::{Event, Kind, Phase};
+use fnc_search::{Operation, Past, Task, is_answered, operation_of, request};
 
 fn confirms(operation: &Operation<'_>, before: &Past<'_>, event: &Event) -> bool
     ensures { result ≡ Dues.confirms (Pursued.operation operation.now) before.now event.now }
@@ -117,18 +115,6 @@ pub(crate) fn is_open(past: &Past<'_>, req: u32) -> bool
     first_waiting(past, req).is_some()
 }
 
-/// The operation of a number.
-pub(crate) fn operation_of<'a>(past: &Past<'a>, req: u32) -> Option<Operation<'a>>
-    ensures { result ≡ pursued_of req past.now }
-{
-    let asked = request(past, req)?;
-    if req == asked.lead {
-        Some(Operation::new(req, asked))
-    } else {
-        None
-    }
-}
-
 fn operation_here(event: &Event) -> Option<u32>
     ensures { result ≡ Operations.operation_here event.now }
 {
@@ -213,7 +199,7 @@ fn is_on(task: &Option<Task<'_>>) -> bool
     ensures { result ≡ unwrap_or (option_map Operations.is_on task.now) false }
 {
     match task {
-        Some(task) => task.phase.is(Phase::On),
+        Some(task) => task.phase().is(Phase::On),
         None => false,
     }
 }

@@ -4,16 +4,12 @@ ghost use Rattle.std.specs.Prelude.{◌≡◌, ◌&&◌, ◌+◌, ◌<◌, ◌^�
 ghost use Rattle.fnc_journal.specs.Registered.{lane};
 ghost use Rattle.fnc_journal.specs.Startable as Starts;
 ghost use Rattle.fnc_judge.specs.Opened.{counts, counts_here, is_sooner, startable_any};
-ghost use Rattle.fnc_judge.specs.Pursued as Pursued;
+ghost use Rattle.fnc_search.specs.Pursued as Pursued;
 
 use crate::course::{ready, standing};
-use crate::found::has_exit;
-use crate::past::Past;
-use crate::pursued::Operation;
-use crate::registered::lane_of;
 use crate::requests::opened_by;
-use crate::task::Task;
 use fnc_journal::{Event, Start};
+use fnc_search::{Operation, Past, Task, has_exit, lane_of};
 use std::marker::Model;
 
 /// A start that may be made: an operation, its standing slot, and since when that is ready.
@@ -26,7 +22,7 @@ pub(crate) struct Startable<'a> {
 
 impl<'a> Model for Startable<'a> {
     ghost use Rattle.fnc_journal.specs.Startable as Starts;
-    ghost use Rattle.fnc_judge.specs.Pursued as Pursued;
+    ghost use Rattle.fnc_search.specs.Pursued as Pursued;
 
     ghost Value = { Starts.Startable };
 
