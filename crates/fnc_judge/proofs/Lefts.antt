@@ -7,8 +7,8 @@ use Rattle.fnc_journal.specs.Acts.{Act}
 use Rattle.fnc_journal.specs.Standing.{capable_query}
 use Rattle.fnc_search.specs.declared.candidates.After.{After}
 use Rattle.fnc_search.specs.Keyed.{Keyed, key, later}
-use Rattle.fnc_search.specs.Pursued.{Pursued}
-use Rattle.fnc_search.proofs.Queue.{keyed_of, left, queued, queried_at, rest-later}
+use Rattle.fnc_search.specs.Pursued.{Pursued, queried_at}
+use Rattle.fnc_search.proofs.Queue.{keyed_of, left, queued, rest-later}
 use Rattle.fnc_judge.specs.Courses.{Course, coursed_any, coursed_all}
 
 coursed-cons : (o : Operation) (m : ℕ) (acts : List Act) (s : Course) (c : Option QueriedDevice) (cs : List QueriedDevice) →

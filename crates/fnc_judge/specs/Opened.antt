@@ -1,5 +1,6 @@
 -- The open operations, one after another, as the judge keeps them.
-use Rattle.std.specs.Prelude.{ℕ, List, [], ◌∷◌, Bool, true, false, nat_lt, ◌==◌, ◌&&◌, not, if◌then◌else◌, filter, Option, Some, None, option_and_then, length}
+use Rattle.std.specs.Prelude.{ℕ, List, [], ◌∷◌, Bool, true, false, nat_lt, ◌==◌, ◌&&◌, not, if◌then◌else◌, filter}
+use Rattle.std.specs.Prelude.{Option, Some, None, option_and_then, length}
 use Rattle.fnc_journal.specs.declared.event.Event.{Event}
 use Rattle.fnc_journal.specs.History.{History}
 use Rattle.fnc_journal.specs.Missing.{append_some, first_of}

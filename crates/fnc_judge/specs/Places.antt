@@ -14,10 +14,12 @@ is_unfit kind before names = list_any (λ name. is_none (placed kind before name
 abbrev pub firsts_over : Bool → Kind → History → ℕ → ℕ → List (List ℕ) → List Task
 firsts_over split kind before level place [] = []
 firsts_over split kind before level place (name ∷ names) =
-    cons_option (option_map (act_task split kind level place) (placed kind before name)) (firsts_over split kind before level (place + 1) names)
+    cons_option (option_map (act_task split kind level place) (placed kind before name))
+    (firsts_over split kind before level (place + 1) names)
 
 -- the On slots of those that have one
 abbrev pub ons_over : Kind → History → ℕ → ℕ → List (List ℕ) → List Task
 ons_over kind before level place [] = []
 ons_over kind before level place (name ∷ names) =
-    cons_option (option_and_then (on_task level place) (placed kind before name)) (ons_over kind before level (place + 1) names)
+    cons_option (option_and_then (on_task level place) (placed kind before name))
+    (ons_over kind before level (place + 1) names)

@@ -40,14 +40,17 @@ impl<'a> Model for Course<'a> {
 
 #[tactic(auto, using(fnc_search::proofs::Looks::answered_same))]
 fn is_answered(operation: &Operation<'_>, past: &Past<'_>, task: &Task<'_>) -> bool
-    ensures { result ≡ Standing.capable_query (Pursued.operation operation.now) (Acts.acts operation.now.req past.now) (Some task.now) }
+    ensures { result
+        ≡ Standing.capable_query (Pursued.operation operation.now) (Acts.acts operation.now.req past.now)
+        (Some task.now) }
 {
     let seen = looked_at(past, operation.req(), task, operation.over());
     capable_by(task.kind(), seen.listed, seen.is_answered(task))
 }
 
 fn is_capable(operation: &Operation<'_>, past: &Past<'_>, query: &Option<Task<'_>>) -> bool
-    ensures { result ≡ Standing.capable_query (Pursued.operation operation.now) (Acts.acts operation.now.req past.now) query.now }
+    ensures { result
+        ≡ Standing.capable_query (Pursued.operation operation.now) (Acts.acts operation.now.req past.now) query.now }
 {
     match query {
         None => true,
@@ -73,7 +76,9 @@ fn with_device<'a>(
     index: u64,
     device: &Device<'a>,
 ) -> Survey<'a>
-    ensures { result ≡ Surveys.surveyed (Pursued.operation operation.now) moment (Acts.acts operation.now.req past.now) survey.entry (Slots.rank operation.now.asked.kind index (Some device.now ∷ [])) }
+    ensures { result
+        ≡ Surveys.surveyed (Pursued.operation operation.now) moment (Acts.acts operation.now.req past.now)
+        survey.entry (Slots.rank operation.now.asked.kind index (Some device.now ∷ [])) }
 {
     let task = act_task(false, operation.kind(), index, 0, device);
     let acting = Gathered::nothing().with(operation, moment, past, &task);
@@ -116,7 +121,9 @@ impl<'a> Course<'a> {
         query: Option<Task<'a>>,
     ) -> Course<'a>
         requires { self.index < 2 ^ 64 - 1 }
-        ensures { result ≡ Courses.coursed (Pursued.operation operation.now) moment (Acts.acts operation.now.req past.now) self.entry (record { device = device.now; query = query.entry }) }
+        ensures { result
+            ≡ Courses.coursed (Pursued.operation operation.now) moment (Acts.acts operation.now.req past.now)
+            self.entry (record { device = device.now; query = query.entry }) }
     {
         if is_capable(operation, past, &query) {
             Course {
@@ -143,7 +150,9 @@ impl<'a> Course<'a> {
         candidate: &Device<'a>,
     ) -> Course<'a>
         requires { self.index < 2 ^ 64 - 1 }
-        ensures { result ≡ Courses.coursed_any (Pursued.operation operation.now) moment (Acts.acts operation.now.req past.now) self.entry (option_map (Slots.queried place (Plan.candidate (Pursued.wanted operation.now) operation.now.asked.before candidate.now).query) (Slots.device_of operation.now.asked.before (Plan.candidate (Pursued.wanted operation.now) operation.now.asked.before candidate.now).reg)) }
+        ensures { result
+            ≡ Courses.coursed_any (Pursued.operation operation.now) moment (Acts.acts operation.now.req past.now)
+            self.entry (Pursued.queried_at operation.now place candidate.now) }
     {
         let query = query_of(operation, candidate);
         match device_of(&operation.before(), candidate.reg()) {
@@ -158,7 +167,9 @@ impl<'a> Course<'a> {
 
 /// What is gathered of the candidates of an operation.
 fn candidates<'a>(operation: &Operation<'a>, moment: u64, past: &Past<'_>) -> Course<'a>
-    ensures { result ≡ Courses.coursed_all (Pursued.operation operation.now) moment (Acts.acts operation.now.req past.now) Courses.start (candidates_of operation.now) }
+    ensures { result
+        ≡ Courses.coursed_all (Pursued.operation operation.now) moment (Acts.acts operation.now.req past.now)
+        Courses.start (candidates_of operation.now) }
 {
     let most = operation.before().len();
     let mut course = Course::start();
@@ -237,7 +248,8 @@ pub(crate) fn standing<'a>(
     moment: u64,
     past: &Past<'_>,
 ) -> Option<Task<'a>>
-    ensures { result ≡ Standing.standing (Pursued.operation operation.now) moment (Acts.acts operation.now.req past.now) }
+    ensures { result
+        ≡ Standing.standing (Pursued.operation operation.now) moment (Acts.acts operation.now.req past.now) }
 {
     standing_by(course_of(operation, moment, past))
 }
@@ -292,7 +304,8 @@ fn due_by(course: &Course<'_>, over: u128, moment: u64) -> Option<Due>
 
 /// The answer that is due to an operation by its acts alone.
 pub(crate) fn due_by_acts(operation: &Operation<'_>, moment: u64, past: &Past<'_>) -> Option<Due>
-    ensures { option_map Courses.answer_of result ≡ Dues.due_by_acts (Pursued.operation operation.now) moment (Acts.acts operation.now.req past.now) }
+    ensures { option_map Courses.answer_of result
+        ≡ Dues.due_by_acts (Pursued.operation operation.now) moment (Acts.acts operation.now.req past.now) }
 {
     due_by(
         &course_of(operation, moment, past),
@@ -311,7 +324,8 @@ fn since_by(course: &Course<'_>, begin: u64) -> u128
 
 /// Since when an operation stands where it stands.
 fn since(operation: &Operation<'_>, moment: u64, past: &Past<'_>) -> u128
-    ensures since { result ≡ Standing.since (Pursued.operation operation.now) moment (Acts.acts operation.now.req past.now) }
+    ensures since { result
+        ≡ Standing.since (Pursued.operation operation.now) moment (Acts.acts operation.now.req past.now) }
     ensures small { result < 2 ^ 65 }
 {
     since_by(&course_of(operation, moment, past), operation.begin())
@@ -324,7 +338,8 @@ pub(crate) fn ready(
     past: &Past<'_>,
     task: &Task<'_>,
 ) -> Option<u128>
-    ensures { result ≡ Standing.ready (Pursued.operation operation.now) moment (Acts.acts operation.now.req past.now) task.now }
+    ensures { result
+        ≡ Standing.ready (Pursued.operation operation.now) moment (Acts.acts operation.now.req past.now) task.now }
 {
     let seen = looked_at(past, operation.req(), task, operation.over());
     ready_after(operation, moment, past, task, seen.last)
@@ -337,7 +352,8 @@ fn ready_after(
     task: &Task<'_>,
     last: Last,
 ) -> Option<u128>
-    ensures { (l : Acts.Last) → last ≡ last_of l → result ≡ Standing.ready_after (Pursued.operation operation.now) moment (Acts.acts operation.now.req past.now) task.now l }
+    ensures { (l : Acts.Last) → last ≡ last_of l → result ≡ Standing.ready_after (Pursued.operation operation.now)
+        moment (Acts.acts operation.now.req past.now) task.now l }
 {
     match last {
         Last::NoRun => {

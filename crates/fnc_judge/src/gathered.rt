@@ -27,7 +27,12 @@ impl<'a> Model for Gathered<'a> {
 
     ghost invariant = { λ g. g.greatest < 2 ^ 65 };
 
-    ghost view = { λ g. record { unconfirmed = g.unconfirmed; unconcluded = g.unconcluded; lost = g.lost; greatest = g.greatest } };
+    ghost view = { λ g. record {
+      unconfirmed = g.unconfirmed;
+      unconcluded = g.unconcluded;
+      lost = g.lost;
+      greatest = g.greatest;
+    } };
 }
 
 fn first_of<'a>(earlier: Option<Task<'a>>, passes: bool, task: &Task<'a>) -> Option<Task<'a>>
@@ -78,7 +83,9 @@ impl<'a> Gathered<'a> {
         past: &Past<'_>,
         task: &Task<'a>,
     ) -> Gathered<'a>
-        ensures { result ≡ Tours.gathered (Pursued.operation operation.now) moment (acts operation.now.req past.now) self.entry task.now }
+        ensures { result
+            ≡ Tours.gathered (Pursued.operation operation.now) moment (acts operation.now.req past.now) self.entry
+            task.now }
     {
         let seen = looked_at(past, operation.req(), task, operation.over());
         self.with_seen(task, seen, moment, operation.begin())
@@ -92,7 +99,9 @@ impl<'a> Gathered<'a> {
         past: &Past<'_>,
         task: Option<Task<'a>>,
     ) -> Gathered<'a>
-        ensures { result ≡ Tours.gathered_any (Pursued.operation operation.now) moment (acts operation.now.req past.now) self.entry task.entry }
+        ensures { result
+            ≡ Tours.gathered_any (Pursued.operation operation.now) moment (acts operation.now.req past.now) self.entry
+            task.entry }
     {
         match task {
             Some(task) => self.with(operation, moment, past, &task),

@@ -1,6 +1,7 @@
 // The requests that wait, the operations that are open, and the answers that are due to them.
 
-ghost use Rattle.std.specs.Prelude.{◌≡◌, ◌||◌, ◌<◌, ◌-◌, if◌then◌else◌, false, find, is_none, is_some, option_map, unwrap_or};
+ghost use Rattle.std.specs.Prelude.{◌≡◌, ◌||◌, ◌<◌, ◌-◌, if◌then◌else◌, false, find, is_none, is_some, option_map};
+ghost use Rattle.std.specs.Prelude.{unwrap_or};
 ghost use Rattle.fnc_journal.specs.Acts.{acts};
 ghost use Rattle.fnc_journal.specs.Device as Devices;
 ghost use Rattle.fnc_journal.specs.Due as Dues;
@@ -225,7 +226,9 @@ fn joinable_among<'a>(
     target: &str,
     here: Option<Operation<'a>>,
 ) -> Option<Operation<'a>>
-    ensures { result ≡ found_after (λ p. Operations.is_joinable past.now moment kind target.now (Pursued.operation p)) None here.entry }
+    ensures { result
+        ≡ found_after (λ p. Operations.is_joinable past.now moment kind target.now (Pursued.operation p)) None
+        here.entry }
 {
     let operation = here?;
     if is_joinable(past, moment, kind, target, &operation) {
@@ -241,7 +244,9 @@ fn find_joinable<'a>(
     kind: Kind,
     target: &str,
 ) -> Option<Operation<'a>>
-    ensures { result ≡ find (λ p. Operations.is_joinable past.now moment kind target.now (Pursued.operation p)) (opens past.now past.now) }
+    ensures { result
+        ≡ find (λ p. Operations.is_joinable past.now moment kind target.now (Pursued.operation p))
+        (opens past.now past.now) }
 {
     for i in 0..past.len() {
         let here = opened_by(past, &past.entry(i).event);

@@ -218,7 +218,9 @@ fn is_answered_with(answer: Answer, due: Option<Due>) -> bool
 }
 
 fn is_due_answer(past: &Past<'_>, moment: u64, answer: Answer, operation: &Operation<'_>) -> bool
-    ensures { result ≡ unwrap_or (option_map (Same.same_answer answer) (Operations.due_to past.now moment (Pursued.operation operation.now))) false }
+    ensures { result
+        ≡ unwrap_or (option_map (Same.same_answer answer)
+        (Operations.due_to past.now moment (Pursued.operation operation.now))) false }
 {
     is_answered_with(answer, due_to(past, moment, operation))
 }

@@ -83,7 +83,9 @@ fn has_place(past: &Past<'_>, task: &Task<'_>) -> bool
 }
 
 fn may_start(past: &Past<'_>, moment: u64, task: &Task<'_>, ready: u128) -> bool
-    ensures { result ≡ (nat_le ready moment && Starts.has_room (Starts.alive (lane task.now.reg past.now) past.now) task.now.definition.cap) }
+    ensures { result
+        ≡ (nat_le ready moment && Starts.has_room (Starts.alive (lane task.now.reg past.now) past.now)
+        task.now.definition.cap) }
 {
     ready <= u128::from(moment) && has_place(past, task)
 }
@@ -107,7 +109,9 @@ fn soonest_ready<'a>(
     task: Task<'a>,
     ready: u128,
 ) -> Option<Startable<'a>>
-    ensures { result ≡ Starts.soonest found.entry (Starts.startable_ready past.now moment (Pursued.operation operation.entry) task.entry (Some ready)) }
+    ensures { result
+        ≡ Starts.soonest found.entry
+        (Starts.startable_ready past.now moment (Pursued.operation operation.entry) task.entry (Some ready)) }
 {
     if is_before(ready, &found) && may_start(past, moment, &task, ready) {
         Some(Startable {
@@ -128,7 +132,9 @@ fn soonest_at<'a>(
     operation: Operation<'a>,
     task: Task<'a>,
 ) -> Option<Startable<'a>>
-    ensures { result ≡ Starts.soonest found.entry (Starts.startable_at past.now moment (Pursued.operation operation.entry) (Some task.entry)) }
+    ensures { result
+        ≡ Starts.soonest found.entry
+        (Starts.startable_at past.now moment (Pursued.operation operation.entry) (Some task.entry)) }
 {
     match ready(&operation, moment, past, &task) {
         Some(ready) => soonest_ready(found, past, moment, operation, task, ready),
@@ -143,7 +149,8 @@ fn soonest_of<'a>(
     moment: u64,
     operation: Operation<'a>,
 ) -> Option<Startable<'a>>
-    ensures { result ≡ Starts.soonest found.entry (Starts.startable past.now moment (Pursued.operation operation.entry)) }
+    ensures { result
+        ≡ Starts.soonest found.entry (Starts.startable past.now moment (Pursued.operation operation.entry)) }
 {
     match standing(&operation, moment, past) {
         Some(task) => soonest_at(found, past, moment, operation, task),

@@ -90,7 +90,9 @@ fn firsts<'a>(
     level: u64,
     names: &[Text],
 ) -> Gathered<'a>
-    ensures { result ≡ Tours.gathered_all (Pursued.operation operation.now) moment (acts operation.now.req past.now) Tours.nothing (firsts_over split operation.now.asked.kind operation.now.asked.before level 0 names.now) }
+    ensures { result
+        ≡ Tours.gathered_all (Pursued.operation operation.now) moment (acts operation.now.req past.now) Tours.nothing
+        (firsts_over split operation.now.asked.kind operation.now.asked.before level 0 names.now) }
 {
     let before = operation.before();
     let mut found = Gathered::nothing();
@@ -116,7 +118,9 @@ fn ons<'a>(
     level: u64,
     names: &[Text],
 ) -> Gathered<'a>
-    ensures { result ≡ Tours.gathered_all (Pursued.operation operation.now) moment (acts operation.now.req past.now) Tours.nothing (ons_over operation.now.asked.kind operation.now.asked.before level 0 names.now) }
+    ensures { result
+        ≡ Tours.gathered_all (Pursued.operation operation.now) moment (acts operation.now.req past.now) Tours.nothing
+        (ons_over operation.now.asked.kind operation.now.asked.before level 0 names.now) }
 {
     let before = operation.before();
     let mut found = Gathered::nothing();
@@ -195,7 +199,9 @@ impl<'a> Survey<'a> {
         past: &Past<'_>,
         level: Level<'a>,
     ) -> Survey<'a>
-        ensures { result ≡ Surveys.surveyed (Pursued.operation operation.now) moment (acts operation.now.req past.now) self.entry (Surveys.rank_over operation.now.asked.kind operation.now.asked.before level.entry) }
+        ensures { result
+            ≡ Surveys.surveyed (Pursued.operation operation.now) moment (acts operation.now.req past.now) self.entry
+            (Surveys.rank_over operation.now.asked.kind operation.now.asked.before level.entry) }
     {
         let names = level.devices().as_slice();
         let index = u64::from(level.index());
@@ -222,7 +228,10 @@ impl<'a> Survey<'a> {
         past: &Past<'_>,
         level: Option<Level<'a>>,
     ) -> Survey<'a>
-        ensures { result ≡ Surveys.surveyed_any (Pursued.operation operation.now) moment (acts operation.now.req past.now) self.entry (option_map (Surveys.rank_over operation.now.asked.kind operation.now.asked.before) level.entry) }
+        ensures { result
+            ≡ Surveys.surveyed_any (Pursued.operation operation.now) moment (acts operation.now.req past.now)
+            self.entry
+            (option_map (Surveys.rank_over operation.now.asked.kind operation.now.asked.before) level.entry) }
     {
         match level {
             Some(level) => self.with_level(operation, moment, past, level),
@@ -240,7 +249,9 @@ fn kept_after<'a>(
     firsts: Gathered<'a>,
     ons: Gathered<'a>,
 ) -> Option<Kept<'a>>
-    ensures { result ≡ option_or earlier.entry (if unfit || firsts.entry.lost then None else Some (Surveys.kept_by over moment index firsts.entry ons.entry)) }
+    ensures { result
+        ≡ option_or earlier.entry (if unfit || firsts.entry.lost then None else Some
+        (Surveys.kept_by over moment index firsts.entry ons.entry)) }
 {
     match earlier {
         Some(kept) => Some(kept),
@@ -283,7 +294,10 @@ fn survey_target<'a>(
     past: &Past<'_>,
     target: &Target<'_>,
 ) -> Survey<'a>
-    ensures { result ≡ Surveys.surveyed_all (Pursued.operation operation.now) moment (acts operation.now.req past.now) Surveys.none (Surveys.ranks_for operation.now.asked.kind operation.now.asked.before (Levels.levels target.now operation.now.asked.before)) }
+    ensures { result
+        ≡ Surveys.surveyed_all (Pursued.operation operation.now) moment (acts operation.now.req past.now) Surveys.none (
+        Surveys.ranks_for operation.now.asked.kind operation.now.asked.before
+        (Levels.levels target.now operation.now.asked.before)) }
 {
     let before = operation.before();
     let mut survey = Survey::none();
@@ -300,7 +314,9 @@ pub(crate) fn survey_levels<'a>(
     moment: u64,
     past: &Past<'_>,
 ) -> Survey<'a>
-    ensures { result ≡ Surveys.surveyed_all (Pursued.operation operation.now) moment (acts operation.now.req past.now) Surveys.none (Pursued.operation operation.now).levels }
+    ensures { result
+        ≡ Surveys.surveyed_all (Pursued.operation operation.now) moment (acts operation.now.req past.now) Surveys.none
+        (Pursued.operation operation.now).levels }
 {
     match scoped_target(operation.scope(), operation.target(), &operation.before()) {
         Some(target) => survey_target(operation, moment, past, &target),

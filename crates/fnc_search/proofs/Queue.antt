@@ -1,10 +1,10 @@
 -- The candidates of an operation, one after another.
 use Rattle.std.proofs.Common.{ℕ, List, [], ◌∷◌, ◌≡◌, ◌≤◌, ◌+◌, refl, sym, ap, ◌∙◌, Option, Some, None, arith, length, drop}
-use Rattle.std.specs.Prelude.{map, option_map}
+use Rattle.std.specs.Prelude.{map}
 use Rattle.fnc_journal.specs.Missing.{first_of}
 use Rattle.fnc_journal.specs.Device.{Device}
 use Rattle.fnc_journal.specs.Plan.{candidate}
-use Rattle.fnc_journal.specs.Slots.{QueriedDevice, queried, queried_from, device_of}
+use Rattle.fnc_journal.specs.Slots.{QueriedDevice, queried_from}
 use Rattle.fnc_search.specs.declared.candidates.After.{After}
 use Rattle.fnc_search.specs.Keyed.{Keyed, key, keyed_among, later}
 use Rattle.fnc_search.specs.Pursued.{Pursued, wanted, candidates_of}
@@ -39,11 +39,6 @@ pub rest-later : (p : Pursued) (k : Option After) (c : Keyed) → first_of (late
 rest-later p k c e =
     let split = first-some (later k (keyed_of p)) c e in
     split ∙ ap (λ cs. c ∷ cs) (sym (later-next k (keyed_of p) c (drop 1 (later k (keyed_of p))) (ordered (wanted p) p.asked.before p.asked.before) split))
-
--- the device of a candidate with its query
-abbrev pub queried_at : Pursued → ℕ → Device → Option QueriedDevice
-queried_at p place d =
-    option_map (queried place (candidate (wanted p) p.asked.before d).query) (device_of p.asked.before (candidate (wanted p) p.asked.before d).reg)
 
 pub left-none : (p : Pursued) (k : Option After) (place : ℕ) → first_of (later k (keyed_of p)) ≡ None → left p k place ≡ []
 left-none p k place e = ap (queued p place) (first-none (later k (keyed_of p)) e)

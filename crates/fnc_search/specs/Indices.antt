@@ -10,8 +10,11 @@ use Rattle.fnc_journal.specs.Levels.{Level}
 -- what an entry makes of the level of an index
 abbrev pub level_step : LevelTarget → ℕ → ℕ → Event → Option Level → Option Level
 level_step target index at (Event.Level set) earlier =
-    if same_target target set.target && (index == set.index) then Some (record { at = at; index = set.index; devices = set.devices }) else earlier
-level_step target index at (Event.LevelGone cleared) earlier = if same_target target cleared.target && (index == cleared.index) then None else earlier
+    if same_target target set.target && (index == set.index)
+    then Some (record { at = at; index = set.index; devices = set.devices })
+    else earlier
+level_step target index at (Event.LevelGone cleared) earlier =
+    if same_target target cleared.target && (index == cleared.index) then None else earlier
 level_step target index at _ earlier = earlier
 
 -- a number above the index of the level that an entry sets

@@ -1,6 +1,7 @@
 -- An operation as it is found: the number of a request that leads itself, and its entry.
-use Rattle.std.specs.Prelude.{ℕ, List, map, ◌==◌, if◌then◌else◌, Option, Some, None, option_and_then}
+use Rattle.std.specs.Prelude.{ℕ, List, map, ◌==◌, if◌then◌else◌, Option, Some, None, option_map, option_and_then}
 use Rattle.fnc_journal.specs.History.{History}
+use Rattle.fnc_journal.specs.Device.{Device}
 use Rattle.fnc_journal.specs.Found.{Asked, asked}
 use Rattle.fnc_journal.specs.Plan as Plan
 use Rattle.fnc_journal.specs.Slots as Slots
@@ -21,7 +22,14 @@ wanted p = record { kind = p.asked.kind; target = p.asked.target; begin = p.aske
 -- its candidates, where no level stands for its node
 abbrev pub candidates_of : Pursued → List Slots.QueriedDevice
 candidates_of p =
-    Slots.queried_from 0 p.asked.before (map (Plan.candidate (wanted p) p.asked.before) (Plan.candidates_among (wanted p) p.asked.before p.asked.before))
+    Slots.queried_from 0 p.asked.before
+    (map (Plan.candidate (wanted p) p.asked.before) (Plan.candidates_among (wanted p) p.asked.before p.asked.before))
+
+-- a device with the query that it has as a candidate at a place
+abbrev pub queried_at : Pursued → ℕ → Device → Option Slots.QueriedDevice
+queried_at p place d =
+    option_map (Slots.queried place (Plan.candidate (wanted p) p.asked.before d).query)
+    (Slots.device_of p.asked.before (Plan.candidate (wanted p) p.asked.before d).reg)
 
 -- a request that leads itself is an operation
 abbrev pub pursued_by : ℕ → Asked → Option Pursued

@@ -9,4 +9,5 @@ use Rattle.fnc_journal.specs.Levels.{pattern_at}
 abbrev pub scoped_target : Scope → List ℕ → History → Option LevelTarget
 scoped_target Scope.Nothing target h = None
 scoped_target Scope.Name target h = Some (LevelTarget.Name target)
-scoped_target (Scope.Pattern n) target h = elim (pattern_at n h) [ None ↦ None | Some text ↦ Some (LevelTarget.Pattern text) ]
+scoped_target (Scope.Pattern n) target h =
+    elim (pattern_at n h) [ None ↦ None | Some text ↦ Some (LevelTarget.Pattern text) ]

@@ -1,5 +1,6 @@
 -- What the runs of an operation say of a slot, gathered in one record.
-use Rattle.std.specs.Prelude.{ℕ, List, [], ◌∷◌, Bool, false, length, ◌==◌, ◌+◌, ◌||◌, ◌&&◌, not, if◌then◌else◌, min, Option, Some, None, is_some, option_map, unwrap_or}
+use Rattle.std.specs.Prelude.{ℕ, List, [], ◌∷◌, Bool, false, length, ◌==◌, ◌+◌, ◌||◌, ◌&&◌, not, if◌then◌else◌, min}
+use Rattle.std.specs.Prelude.{Option, Some, None, is_some, option_map, unwrap_or}
 use Rattle.fnc_journal.specs.declared.event.Event.{Event}
 use Rattle.fnc_journal.specs.declared.entry.Exit.{Exit}
 use Rattle.fnc_journal.specs.declared.entry.Slot.{Slot}
@@ -8,7 +9,8 @@ use Rattle.fnc_journal.specs.Missing.{or_here, least_of, has_come}
 use Rattle.fnc_journal.specs.Same.{same_slot}
 use Rattle.fnc_journal.specs.Exits.{is_success}
 use Rattle.fnc_journal.specs.Slots.{Task, time, tries}
-use Rattle.fnc_journal.specs.Acts.{Act, begun_at, failed, success_at, last_failure_at, has_listed, last_run, is_below, is_query}
+use Rattle.fnc_journal.specs.Acts.{Act, begun_at, failed, success_at, last_failure_at, has_listed, last_run, is_below}
+use Rattle.fnc_journal.specs.Acts.{is_query}
 use Rattle.fnc_journal.specs.Acts as Acts
 use Rattle.fnc_search.specs.declared.seen.Last.{Last}
 use Rattle.fnc_search.specs.declared.seen.Seen.{Seen}
@@ -26,7 +28,8 @@ starts_for o _ = false
 -- the number of the first entry that does
 abbrev pub first_start_of : ℕ → History → Option ℕ
 first_start_of o [] = None
-first_start_of o (e ∷ before) = or_here (first_start_of o before) (if starts_for o e.event then Some (length before) else None)
+first_start_of o (e ∷ before) =
+    or_here (first_start_of o before) (if starts_for o e.event then Some (length before) else None)
 
 -- the last run of a slot, as the judge keeps it
 abbrev pub last_of : Acts.Last → Last
@@ -56,7 +59,10 @@ seen_success s m listed = record s { success = or_here s.success (Some m); liste
 
 -- with one more failure
 abbrev pub seen_failure : Seen → ℕ → ℕ → Seen
-seen_failure s n m = record s { failed = s.failed + 1; last_failure = or_here s.last_failure (if s.failed + 1 == n then Some m else None) }
+seen_failure s n m = record s {
+  failed = s.failed + 1;
+  last_failure = or_here s.last_failure (if s.failed + 1 == n then Some m else None);
+}
 
 -- whether a moment is in time for a slot that was first started at one
 abbrev pub is_in_time_by : Task → ℕ → Option ℕ → ℕ → Bool

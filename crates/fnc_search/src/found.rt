@@ -26,7 +26,16 @@ pub struct Asked<'a> {
 impl<'a> Model for Asked<'a> {
     ghost Value = { Found.Asked };
 
-    ghost view = { λ a. record { moment = a.moment; lead = a.lead; kind = a.kind; target = a.target.now; total = a.total; coin = a.coin; scope = a.scope; before = a.before } };
+    ghost view = { λ a. record {
+      moment = a.moment;
+      lead = a.lead;
+      kind = a.kind;
+      target = a.target.now;
+      total = a.total;
+      coin = a.coin;
+      scope = a.scope;
+      before = a.before;
+    } };
 }
 
 fn registration_here(event: &Event, reg: u32) -> Option<&Registration>

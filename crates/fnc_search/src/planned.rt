@@ -33,7 +33,8 @@ fn after_place<'a>(
     places: &'a [Option<Reg>],
     name: &Text,
 ) -> Option<&'a [Option<Reg>]>
-    ensures { IfSome result (λ rest. places.now ≡ option_map Planned.reg_of (Registered.current name.now before.now) ∷ rest.now) }
+    ensures { IfSome result
+        (λ rest. places.now ≡ option_map Planned.reg_of (Registered.current name.now before.now) ∷ rest.now) }
 {
     let (first, rest) = places.split_first()?;
     if same_place(*first, current(before, name.as_str())) {
@@ -44,7 +45,8 @@ fn after_place<'a>(
 }
 
 fn are_places(before: &Past<'_>, places: &[Option<Reg>], names: &[Text]) -> bool
-    ensures { OnTrue result (places.now ≡ map (λ name. option_map Planned.reg_of (Registered.current name before.now)) names.now) }
+    ensures { OnTrue result
+        (places.now ≡ map (λ name. option_map Planned.reg_of (Registered.current name before.now)) names.now) }
 {
     let mut rest = places;
     for name in names {
@@ -134,7 +136,8 @@ fn after_candidate<'a>(
     written: &'a [Candidate],
     device: &Device<'_>,
 ) -> Option<&'a [Candidate]>
-    ensures { IfSome result (λ rest. written.now ≡ Planned.candidate (wanted operation.now) operation.now.asked.before device.now ∷ rest.now) }
+    ensures { IfSome result (λ rest. written.now ≡ Planned.candidate (wanted operation.now) operation.now.asked.before
+        device.now ∷ rest.now) }
 {
     let (first, rest) = written.split_first()?;
     if is_candidate(operation, *first, device) {
@@ -145,7 +148,8 @@ fn after_candidate<'a>(
 }
 
 fn are_all_candidates(operation: &Operation<'_>, written: &[Candidate]) -> bool
-    ensures { OnTrue result (written.now ≡ map (Planned.candidate (wanted operation.now) operation.now.asked.before) (Planned.candidates_among (wanted operation.now) operation.now.asked.before operation.now.asked.before)) }
+    ensures { OnTrue result (written.now ≡ map (Planned.candidate (wanted operation.now) operation.now.asked.before)
+        (Planned.candidates_among (wanted operation.now) operation.now.asked.before operation.now.asked.before)) }
 {
     let mut rest = written;
     let mut after = None;
@@ -165,7 +169,8 @@ fn are_all_candidates(operation: &Operation<'_>, written: &[Candidate]) -> bool
 }
 
 fn are_candidates(operation: &Operation<'_>, written: &[Candidate]) -> bool
-    ensures { OnTrue result (written.now ≡ (Planned.plan (wanted operation.now) operation.now.asked.before).candidates) }
+    ensures { OnTrue result
+        (written.now ≡ (Planned.plan (wanted operation.now) operation.now.asked.before).candidates) }
 {
     match operation.scope() {
         Scope::Nothing => are_all_candidates(operation, written),
@@ -175,7 +180,8 @@ fn are_candidates(operation: &Operation<'_>, written: &[Candidate]) -> bool
 
 /// Whether a plan is that of a request which would come next in a journal, at this moment.
 pub fn is_plan(journal: &Journal, kind: Kind, target: &str, moment: u64, plan: &Plan) -> bool
-    ensures { OnTrue result (plan.now ≡ Planned.plan (record { kind = kind; target = target.now; begin = moment; scope = plan.now.scope }) journal.now.history) }
+    ensures { OnTrue result (plan.now ≡ Planned.plan
+        (record { kind = kind; target = target.now; begin = moment; scope = plan.now.scope }) journal.now.history) }
 {
     let asked = Asked {
         moment,

@@ -6,7 +6,9 @@ ghost use Rattle.fnc_journal.specs.Slots as Slots;
 ghost use Rattle.fnc_journal.specs.Prefix.{prefix};
 ghost use Rattle.fnc_journal.specs.Exits as Exits;
 ghost use Rattle.fnc_journal.specs.Missing as Missing;
-ghost use Rattle.fnc_search.specs.Seen.{answered_by, begun_slot, concluded_at_by, concluded_by, confirmed_by, end_by, is_in_time_by, seen_begun, seen_ended, seen_exit, seen_failure, seen_in_time, seen_of, seen_success, seen_with, spent_by, first_start_of, starts_for};
+ghost use Rattle.fnc_search.specs.Seen.{answered_by, begun_slot, concluded_at_by, concluded_by, confirmed_by, end_by};
+ghost use Rattle.fnc_search.specs.Seen.{is_in_time_by, seen_begun, seen_ended, seen_exit, seen_failure, seen_in_time};
+ghost use Rattle.fnc_search.specs.Seen.{seen_of, seen_success, seen_with, spent_by, first_start_of, starts_for};
 
 use crate::past::Past;
 use crate::task::Task;
@@ -188,7 +190,9 @@ impl Seen {
     /// With one more entry.
     fn after(self, task: &Task<'_>, over: u128, before: &Past<'_>, req: u32, entry: &Entry) -> Seen
         requires { self.failed < 2 ^ 32 - 1 }
-        ensures { result ≡ seen_with task.now over self (Acts.act_here req entry.now.moment (Acts.acts req before.now) entry.now.event) }
+        ensures { result
+            ≡ seen_with task.now over self
+            (Acts.act_here req entry.now.moment (Acts.acts req before.now) entry.now.event) }
     {
         match &entry.event {
             Event::Start(start) => {

@@ -53,7 +53,12 @@ impl<'a> Model for Task<'a> {
 
     ghost Value = { Slots.Task };
 
-    ghost view = { λ t. record { slot = record { phase = t.phase; level = t.level; place = t.place }; reg = t.reg; definition = t.definition.now; kind = t.kind } };
+    ghost view = { λ t. record {
+      slot = record { phase = t.phase; level = t.level; place = t.place };
+      reg = t.reg;
+      definition = t.definition.now;
+      kind = t.kind;
+    } };
 }
 
 impl<'a> Task<'a> {

@@ -4,9 +4,9 @@ use Rattle.fnc_journal.specs.Missing.{first_of}
 use Rattle.fnc_journal.specs.Acts.{acts}
 use Rattle.fnc_search.specs.declared.candidates.After.{After}
 use Rattle.fnc_search.specs.Keyed.{key, later}
-use Rattle.fnc_search.specs.Pursued.{operation}
+use Rattle.fnc_search.specs.Pursued.{operation, queried_at}
 use Rattle.fnc_judge.specs.Courses.{Course, coursed_all, coursed_any, start}
-use Rattle.fnc_search.proofs.Queue.{keyed_of, left, left-all, room-all, room-more, queried_at}
+use Rattle.fnc_search.proofs.Queue.{keyed_of, left, left-all, room-all, room-more}
 use Rattle.fnc_judge.proofs.Lefts.{left-more, index-more}
 use Rattle.fnc_judge.proofs.course.candidates.Goals as goal
 
