@@ -27,7 +27,9 @@ fn run(rt: &HostRuntime) -> Outcome {
     let Ok(source) = StreamSource::new(rt.alloc(), rt.reader()) else {
         return Outcome::NoMemory;
     };
-    let sink = StreamSink::new(io::writer(rt));
+    let Ok(sink) = StreamSink::new(rt.alloc(), io::writer(rt)) else {
+        return Outcome::NoMemory;
+    };
     run_tool(rt.alloc(), words.as_slice(), source, sink).outcome
 }
 

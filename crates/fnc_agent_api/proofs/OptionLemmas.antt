@@ -1,9 +1,8 @@
 -- What the tests and cuts of a line say in the words of the definitions.
-use Rattle.std.proofs.Common.{ℕ, ◌<◌, List, [], ◌∷◌, Bool, true, false, ◌||◌, ◌&&◌, not, length, eqb, get_or, ◌≡◌, refl, arith, ne_eqb, Some, None}
-use Rattle.std.specs.List.{position_or_len, list_any, list_all}
+use Rattle.std.proofs.Common.{ℕ, ◌<◌, List, [], ◌∷◌, Bool, true, false, ◌||◌, length, eqb, get_or, ◌≡◌, refl, arith, ne_eqb, Some, None}
+use Rattle.std.specs.List.{position_or_len, list_any}
 use Rattle.fnc_agent_api.specs.Cuts.{before, after}
 use Rattle.fnc_agent_api.specs.Options.{is_skipped, parts_of, pair}
-use Rattle.fnc_agent_api.specs.OptionLines.{is_name, is_name_byte}
 
 pub is_skipped_at : (line : List ℕ) → is_skipped line ≡ (eqb (length line) 0 || eqb (get_or line 0 0) 35)
 is_skipped_at [] = refl
@@ -33,7 +32,3 @@ parts_found line l = rw (has_found 61 line l) refl
 
 pub parts_none : (line : List ℕ) → position_or_len (λ x. eqb x 61) line ≡ length line → parts_of line ≡ None
 parts_none line l = rw (has_none 61 line l) refl
-
-pub is_name_at : (name : List ℕ) → is_name name ≡ (not (eqb (length name) 0) && not (eqb (get_or name 0 0) 35) && list_all is_name_byte name)
-is_name_at [] = refl
-is_name_at (b ∷ bs) = let filled : eqb (length (b ∷ bs)) 0 ≡ false = ne_eqb (length (b ∷ bs)) 0 (λ e. absurd (omega arith)) in rw filled refl

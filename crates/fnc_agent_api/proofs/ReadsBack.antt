@@ -11,11 +11,13 @@ use Rattle.std.proofs.lemmas.List.{get_or-append-add, length-append}
 use Rattle.std.proofs.lemmas.List.Folds.{list_all-append}
 use Rattle.std.proofs.lemmas.List.Sums.{suffix_len_is}
 use Rattle.std.proofs.Math.Seq.{take-append_seam, drop-append-add}
+use Rattle.fnc_journal.specs.declared.limits.TheConstants.{LONGEST_OPTIONS}
+use Rattle.fnc_journal.specs.Bounds.{is_option_byte, is_value_byte}
 use Rattle.fnc_journal.specs.declared.names.Pair.{Pair}
 use Rattle.fnc_agent_api.specs.Blanks.{is_blank, trimmed, without_leading, without_trailing}
 use Rattle.fnc_agent_api.specs.Cuts.{before, after, lines_of}
-use Rattle.fnc_agent_api.specs.Options.{pairs_of, pair_of, parts_of, named, options_of, then_pairs, with_pair, pair, most_bytes}
-use Rattle.fnc_agent_api.specs.OptionLines.{is_control, is_name_byte, is_name, is_value, is_sendable, option_lines}
+use Rattle.fnc_agent_api.specs.Options.{pairs_of, pair_of, parts_of, named, options_of, then_pairs, with_pair, pair}
+use Rattle.fnc_agent_api.specs.OptionLines.{is_name, is_value, is_sendable, option_lines}
 use Rattle.fnc_agent_api.proofs.OptionLemmas.{parts_found}
 
 both : (a b : Bool) → (a && b) ≡ true → (a ≡ true) × (b ≡ true)
@@ -73,19 +75,19 @@ trimmed_same b bs first last =
     suffix_len_is is_blank (b ∷ bs) (length (b ∷ bs)) 0 (omega arith) (λ k within l. absurd (omega arith)) (λ l. last) ∙ sub_self (length (b ∷ bs)) in
     ap without_trailing front ∙ ap (λ n. take (length (b ∷ bs) - n) (b ∷ bs)) none ∙ whole (b ∷ bs)
 
-name_byte_not_blank : (b : ℕ) → is_name_byte b ≡ true → is_blank b ≡ false
+name_byte_not_blank : (b : ℕ) → is_option_byte b ≡ true → is_blank b ≡ false
 name_byte_not_blank b e = grind (arith, nat_tests)
 
-name_byte_not_equals : (b : ℕ) → is_name_byte b ≡ true → not (eqb b 61) ≡ true
-name_byte_not_equals b e = (both (not (is_control b) && not (eqb b 32)) (not (eqb b 61)) e).1
+name_byte_not_equals : (b : ℕ) → is_option_byte b ≡ true → not (eqb b 61) ≡ true
+name_byte_not_equals b e = grind (arith, nat_tests)
 
-name_byte_not_feed : (b : ℕ) → is_name_byte b ≡ true → not (eqb b 10) ≡ true
+name_byte_not_feed : (b : ℕ) → is_option_byte b ≡ true → not (eqb b 10) ≡ true
 name_byte_not_feed b e = grind (arith, nat_tests)
 
-value_byte_not_feed : (b : ℕ) → not (is_control b) ≡ true → not (eqb b 10) ≡ true
+value_byte_not_feed : (b : ℕ) → is_value_byte b ≡ true → not (eqb b 10) ≡ true
 value_byte_not_feed b e = grind (arith, nat_tests)
 
-value_byte_not_blank : (b : ℕ) → not (is_control b) ≡ true → not (eqb b 32) ≡ true → is_blank b ≡ false
+value_byte_not_blank : (b : ℕ) → is_value_byte b ≡ true → not (eqb b 32) ≡ true → is_blank b ≡ false
 value_byte_not_blank b e f = grind (arith, nat_tests)
 
 -- a line of an option does not end with a blank
@@ -94,18 +96,18 @@ last_not_blank name [] e =
     let at : length (name ++ 61 ∷ []) - 1 ≡ length name + 0 = omega (arith, length-append name (61 ∷ [])) in
     rw (at, get_or-append-add name (61 ∷ []) 0 0) refl
 last_not_blank name (v ∷ vs) e =
-    let parts = both (list_all (λ b. not (is_control b)) (v ∷ vs)) (not (eqb (get_or (v ∷ vs) (length (v ∷ vs) - 1) 0) 32)) e in
+    let parts = both (list_all is_value_byte (v ∷ vs)) (not (eqb (get_or (v ∷ vs) (length (v ∷ vs) - 1) 0) 32)) e in
     let last : is_blank (get_or (v ∷ vs) (length (v ∷ vs) - 1) 0) ≡ false =
-    value_byte_not_blank (get_or (v ∷ vs) (length (v ∷ vs) - 1) 0) (at_all (λ b. not (is_control b)) (v ∷ vs) (length (v ∷ vs) - 1) parts.0 (omega arith)) parts.1 in
+    value_byte_not_blank (get_or (v ∷ vs) (length (v ∷ vs) - 1) 0) (at_all is_value_byte (v ∷ vs) (length (v ∷ vs) - 1) parts.0 (omega arith)) parts.1 in
     let at : length (name ++ 61 ∷ (v ∷ vs)) - 1 ≡ length name + suc (length (v ∷ vs) - 1) = omega (arith, length-append name (61 ∷ (v ∷ vs))) in
     ap (λ k. is_blank (get_or (name ++ 61 ∷ (v ∷ vs)) k 0)) at
     ∙ ap is_blank (get_or-append-add name (61 ∷ (v ∷ vs)) (suc (length (v ∷ vs) - 1)) 0)
     ∙ last
 
 -- the parts of a line that is not trimmed further
-parts_read : (name value : List ℕ) → list_all is_name_byte name ≡ true → parts_of (name ++ 61 ∷ value) ≡ Some (pair name value)
+parts_read : (name value : List ℕ) → list_all is_option_byte name ≡ true → parts_of (name ++ 61 ∷ value) ≡ Some (pair name value)
 parts_read name value n =
-    let lacks = all_weaker is_name_byte (λ b. not (eqb b 61)) name_byte_not_equals name n in
+    let lacks = all_weaker is_option_byte (λ b. not (eqb b 61)) name_byte_not_equals name n in
     parts_found (name ++ 61 ∷ value) (omega (arith, place 61 name value lacks, length-append name (61 ∷ value)))
     ∙ ap (λ x. Some (pair x (after 61 (name ++ 61 ∷ value)))) (before_separator 61 name value lacks)
     ∙ ap (λ x. Some (pair name x)) (after_separator 61 name value lacks)
@@ -117,16 +119,16 @@ named_same number b bs value = let filled : eqb (length (b ∷ bs)) 0 ≡ false 
 reads_pair : (number : ℕ) (name value : List ℕ) → is_name name ≡ true → is_value value ≡ true → pair_of number (trimmed (name ++ 61 ∷ value)) ≡ Ok (Some (pair name value))
 reads_pair number [] value n v = cc
 reads_pair number (b ∷ bs) value n v =
-    let parts = both (not (eqb b 35)) (list_all is_name_byte (b ∷ bs)) n in
-    let first = (both (is_name_byte b) (list_all is_name_byte bs) parts.1).0 in
+    let parts = both (not (eqb b 35)) (list_all is_option_byte (b ∷ bs)) n in
+    let first = (both (is_option_byte b) (list_all is_option_byte bs) parts.1).0 in
     ap (pair_of number) (trimmed_same b (bs ++ 61 ∷ value) (name_byte_not_blank b first) (last_not_blank (b ∷ bs) value v))
     ∙ rw (not-true (eqb b 35) parts.0) (ap (named number) (parts_read (b ∷ bs) value parts.1) ∙ named_same number b bs value)
 
 line_lacks_feed : (name value : List ℕ) → is_name name ≡ true → is_value value ≡ true → Lacks 10 (name ++ 61 ∷ value)
 line_lacks_feed [] value n v = cc
 line_lacks_feed (b ∷ bs) value n v =
-    let in_name = all_weaker is_name_byte (λ x. not (eqb x 10)) name_byte_not_feed (b ∷ bs) (both (not (eqb b 35)) (list_all is_name_byte (b ∷ bs)) n).1 in
-    let in_value = all_weaker (λ x. not (is_control x)) (λ x. not (eqb x 10)) value_byte_not_feed value (both (list_all (λ x. not (is_control x)) value) (not (eqb (get_or value (length value - 1) 0) 32)) v).0 in
+    let in_name = all_weaker is_option_byte (λ x. not (eqb x 10)) name_byte_not_feed (b ∷ bs) (both (not (eqb b 35)) (list_all is_option_byte (b ∷ bs)) n).1 in
+    let in_value = all_weaker is_value_byte (λ x. not (eqb x 10)) value_byte_not_feed value (both (list_all is_value_byte value) (not (eqb (get_or value (length value - 1) 0) 32)) v).0 in
     list_all-append (λ x. not (eqb x 10)) (b ∷ bs) (61 ∷ value) ∙ rw (in_name, in_value) refl
 
 regrouped : (name value rest : List ℕ) → (name ++ 61 ∷ (value ++ 10 ∷ [])) ++ rest ≡ (name ++ 61 ∷ value) ++ 10 ∷ rest
@@ -142,7 +144,7 @@ reads_pairs number (p ∷ ps) e =
     ∙ ap (λ said. then_pairs said (pairs_of (number + 1) (lines_of (option_lines ps)))) (reads_pair number p.name p.value can.0 can.1)
     ∙ ap (with_pair (Some p)) (reads_pairs (number + 1) ps parts.1)
 
-pub reads_back : (pairs : List Pair) (text : List ℕ) → IsUtf8 text → text ≡ option_lines pairs → list_all is_sendable pairs ≡ true → length text ≤ most_bytes → options_of text ≡ Ok pairs
+pub reads_back : (pairs : List Pair) (text : List ℕ) → IsUtf8 text → text ≡ option_lines pairs → list_all is_sendable pairs ≡ true → length text ≤ LONGEST_OPTIONS → options_of text ≡ Ok pairs
 reads_back pairs text u same can short =
-    let within : ltb 32768 (length text) ≡ false = grind (arith, nat_tests) in
+    let within : ltb LONGEST_OPTIONS (length text) ≡ false = grind (arith, nat_tests) in
     rw (within, is_utf8-from_IsUtf8 text u) (ap (λ t. pairs_of 1 (lines_of t)) same ∙ reads_pairs 1 pairs can)

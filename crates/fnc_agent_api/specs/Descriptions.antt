@@ -5,12 +5,13 @@ use Rattle.std.specs.Str.{is_utf8}
 use Rattle.serde_json.specs.Data.{Data, Items, no_items, item}
 use Rattle.serde_json.specs.Find.{get, as_array, as_bool, as_object, as_str}
 use Rattle.serde_json.specs.Read.{read}
+use Rattle.fnc_journal.specs.Bounds.{is_option_name}
+use Rattle.fnc_journal.specs.declared.limits.TheConstants.{MOST_PARAMETERS}
 use Rattle.fnc_journal.specs.declared.definition.Actions.{Actions}
 use Rattle.fnc_journal.specs.declared.definition.Parameter.{Parameter}
 use Rattle.fnc_journal.specs.declared.definition.Description.{Description}
 use Rattle.fnc_agent_api.specs.declared.description.Field.{Field}
 use Rattle.fnc_agent_api.specs.declared.description.DescribeFault.{DescribeFault}
-use Rattle.fnc_agent_api.specs.OptionLines.{is_name}
 
 -- whether some item, or each, passes a test
 abbrev pub any_item : (Data → Bool) → Items → Bool
@@ -54,13 +55,10 @@ actions_of_items (Some ds) = if all_items is_text ds then Some (actions_in ds) e
 abbrev pub actions_of : Option Data → Option Actions
 actions_of field = actions_of_items (option_and_then as_array field)
 
--- the name of a parameter: one that can be sent, of at most 64 bytes
-abbrev pub is_parameter_name : List ℕ → Bool
-is_parameter_name name = is_name name && nat_le (length name) 64
-
+-- the name of a parameter is that of an option
 abbrev pub parameter_name : Option (List ℕ) → Option (List ℕ)
 parameter_name None = None
-parameter_name (Some name) = if is_parameter_name name then Some name else None
+parameter_name (Some name) = if is_option_name name then Some name else None
 
 -- a parameter is required where its description says so
 abbrev pub required_of : Option Data → Option Bool
@@ -88,7 +86,7 @@ parameters_in (item d ds) = with_parameter (parameter_of d) (parameters_in ds)
 -- parameters are an array of at most 64, and none where the field is absent
 abbrev pub parameters_of_items : Option Items → Option (List Parameter)
 parameters_of_items None = None
-parameters_of_items (Some ds) = if nat_le (item_count ds) 64 then parameters_in ds else None
+parameters_of_items (Some ds) = if nat_le (item_count ds) MOST_PARAMETERS then parameters_in ds else None
 
 abbrev pub parameters_of : Option Data → Option (List Parameter)
 parameters_of None = Some []

@@ -1,26 +1,20 @@
 -- What an agent is sent: the action's word, the node's name, its port, and the device's own options.
-use Rattle.std.specs.Prelude.{ℕ, List, [], ◌∷◌, ◌++◌, ◌-◌, ◌==◌, ◌||◌, ◌&&◌, Bool, false, not, nat_lt, Option, Some, None, length, slice_index, option_to_list, codes, IsTrue}
+use Rattle.std.specs.Prelude.{ℕ, List, [], ◌∷◌, ◌++◌, ◌-◌, ◌==◌, ◌&&◌, Bool, false, not, Option, Some, None, length, slice_index, option_to_list, codes, IsTrue}
 use Rattle.std.specs.List.{list_all, flat_map}
+use Rattle.fnc_journal.specs.Bounds.{is_option_byte, is_value_byte}
 use Rattle.fnc_journal.specs.declared.names.Pair.{Pair}
 use Rattle.fnc_agent_api.specs.Options.{pair}
 
--- a byte that stands in no name and no value
-abbrev pub is_control : ℕ → Bool
-is_control b = nat_lt b 32 || b == 127
-
--- a byte that may stand in a name: neither a control byte nor a space nor `=`
-abbrev pub is_name_byte : ℕ → Bool
-is_name_byte b = not (is_control b) && not (b == 32) && not (b == 61)
-
--- a name that can be sent: some such bytes, of which the first is no `#`
+-- a name that can be sent: some bytes that may stand in an option's name, of which the first is no `#`
 abbrev pub is_name : List ℕ → Bool
 is_name [] = false
-is_name (b ∷ bs) = not (b == 35) && list_all is_name_byte (b ∷ bs)
+is_name (b ∷ bs) = not (b == 35) && list_all is_option_byte (b ∷ bs)
 
--- a value that can be sent: no control byte, and no space at its end
+-- a value that can be sent: bytes that may stand in an option's value, and no space at its end
 abbrev pub is_value : List ℕ → Bool
-is_value bytes = list_all (λ b. not (is_control b)) bytes && not (slice_index bytes (length bytes - 1) == 32)
+is_value bytes = list_all is_value_byte bytes && not (slice_index bytes (length bytes - 1) == 32)
 
+-- an option that can be sent
 abbrev pub is_sendable : Pair → Bool
 is_sendable p = is_name p.name && is_value p.value
 

@@ -2,14 +2,11 @@
 use Rattle.std.specs.Prelude.{◌≡◌, ℕ, List, [], ◌∷◌, ◌++◌, ◌+◌, ◌==◌, if◌then◌else◌, Bool, true, Option, Some, None, Result, Ok, Err, length, nat_lt, reverse, find, option_map, bytes_eq}
 use Rattle.std.specs.List.{list_any}
 use Rattle.std.specs.Str.{is_utf8}
+use Rattle.fnc_journal.specs.declared.limits.TheConstants.{LONGEST_OPTIONS}
 use Rattle.fnc_journal.specs.declared.names.Pair.{Pair}
 use Rattle.fnc_agent_api.specs.declared.options.OptionFault.{OptionFault}
 use Rattle.fnc_agent_api.specs.Blanks.{trimmed}
 use Rattle.fnc_agent_api.specs.Cuts.{before, after, lines_of}
-
--- the longest text of options
-abbrev pub most_bytes : ℕ
-most_bytes = 32768
 
 -- an empty line says nothing, nor does one that begins with `#`
 abbrev pub is_skipped : List ℕ → Bool
@@ -56,7 +53,7 @@ pairs_of number (line ∷ lines) = then_pairs (pair_of number (trimmed line)) (p
 
 -- the options that the bytes are, or the first fault: too long, no text, or a bad line
 abbrev pub options_of : List ℕ → Result (List Pair) OptionFault
-options_of bytes = if nat_lt most_bytes (length bytes) then Err OptionFault.TooLong
+options_of bytes = if nat_lt LONGEST_OPTIONS (length bytes) then Err OptionFault.TooLong
     else (if is_utf8 bytes then pairs_of 1 (lines_of bytes) else Err OptionFault.NotUtf8)
 
 -- the value of the last pair of a name

@@ -6,8 +6,8 @@ ghost use Rattle.serde_json.specs.View.{view, items_view};
 ghost use Rattle.serde_json.specs.Find.{as_array, as_str, get};
 ghost use Rattle.fnc_agent_api.specs.Descriptions as described;
 
-use crate::names::is_name;
-use fnc_journal::{Actions, Description, NoMemory, Parameter, Parameters, Text};
+use fnc_journal::limits::MOST_PARAMETERS;
+use fnc_journal::{Actions, Description, NoMemory, Parameter, Parameters, Text, is_option_name};
 use serde_json::Value;
 use std::alloc::Global;
 use thiserror::Error;
@@ -48,7 +48,7 @@ impl From<NoMemory> for DescribeFault {
 
 /// Reads the description of an agent. `actions` is an array of texts, of which `on`, `off`, `reboot`, `list` and
 /// `status` count and `off` must be one. `parameters` may be there: an array of at most 64 objects, each with a
-/// `name` of 1 to 64 bytes that can be sent and, where the parameter must be given, `required`. So may
+/// `name` that an option can have and, where the parameter must be given, `required`. So may
 /// `target_parameter`, the name of the parameter that takes the node. Of equal keys the last counts.
 pub fn read_description(alloc: Global, json: &[u8]) -> Result<Description, DescribeFault>
     ensures { described.Gives result (described.described json.now) }
@@ -173,7 +173,7 @@ fn read_parameters(alloc: Global, field: Option<&Value>) -> Result<Parameters, D
         return Ok(Parameters::new(alloc));
     };
     match value.as_array() {
-        Some(items) if items.len() <= 64 => parameters_among(alloc, items),
+        Some(items) if items.len() <= MOST_PARAMETERS => parameters_among(alloc, items),
         _ => Err(DescribeFault::BadField {
             field: Field::Parameters,
         }),
@@ -221,15 +221,9 @@ fn parameter_name(text: Option<&str>) -> Option<&str>
         ≡ described.parameter_name (option_map (λ t. t.now) text.entry) }
 {
     match text {
-        Some(name) if is_parameter_name(name) => Some(name),
+        Some(name) if is_option_name(name) => Some(name),
         _ => None,
     }
-}
-
-fn is_parameter_name(name: &str) -> bool
-    ensures { result ≡ described.is_parameter_name name.now }
-{
-    is_name(name) && name.len() <= 64
 }
 
 fn read_target(alloc: Global, field: Option<&Value>) -> Result<Option<Text>, DescribeFault>

@@ -8,7 +8,6 @@ mod cuts;
 mod description;
 mod list_output;
 mod meaning;
-mod names;
 mod option_lines;
 mod options;
 

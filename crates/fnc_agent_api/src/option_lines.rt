@@ -2,9 +2,10 @@
 
 ghost use Rattle.std.specs.Prelude.{◌≡◌, ◌≤◌, ◌++◌, [], ◌∷◌, length, option_to_list, Ok, IfOk, OnOk, string_bytes, codes};
 ghost use Rattle.std.specs.Option.{option_copied};
-ghost use Rattle.fnc_agent_api.specs.Options.{options_of, most_bytes, pair};
+ghost use Rattle.fnc_agent_api.specs.Options.{options_of, pair};
 ghost use Rattle.fnc_agent_api.specs.OptionLines.{AreSendable, sent, node_option, option_line, option_lines};
 
+use fnc_journal::limits::LONGEST_OPTIONS;
 use fnc_journal::{Bytes, NoMemory, Pair, Pairs};
 use std::alloc::Global;
 
@@ -24,7 +25,7 @@ pub fn options_text(
     // An agent that reads the text finds these options.
     ensures reads_back { IfOk result (λ text.
         let options = sent word.now (option_copied nodename.entry) (option_copied port.entry) own.now in
-        AreSendable options → length text ≤ most_bytes → options_of text ≡ Ok options) }
+        AreSendable options → length text ≤ LONGEST_OPTIONS → options_of text ≡ Ok options) }
 {
     Ok(Bytes::from_vec(text_of(alloc, word, nodename, port, own.as_slice())?.into_bytes()))
 }

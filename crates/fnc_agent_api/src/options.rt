@@ -8,13 +8,11 @@ ghost use Rattle.fnc_agent_api.specs.Blanks.{trimmed};
 
 use crate::blanks::trimmed_text;
 use crate::cuts::cut_text;
+use fnc_journal::limits::LONGEST_OPTIONS;
 use fnc_journal::{NoMemory, Pair, Pairs, Text};
 use std::alloc::Global;
 use std::marker::Model;
 use thiserror::Error;
-
-/// The longest text of options, in bytes.
-const MOST_BYTES: usize = 32_768;
 
 /// Why bytes are no options, with the number of the line from 1.
 #[derive(Clone, Copy, Debug, PartialEq, Eq, Error)]
@@ -82,7 +80,7 @@ impl Options {
 pub fn read_options(alloc: Global, input: &[u8]) -> Result<Options, OptionFault>
     ensures { Gives result (options_of input.now) }
 {
-    if input.len() > MOST_BYTES {
+    if input.len() > LONGEST_OPTIONS {
         return Err(OptionFault::TooLong);
     }
     match str::from_utf8(input) {
@@ -92,7 +90,7 @@ pub fn read_options(alloc: Global, input: &[u8]) -> Result<Options, OptionFault>
 }
 
 fn read_lines(alloc: Global, text: &str) -> Result<Options, OptionFault>
-    requires { length text.now ≤ 32768 }
+    requires { length text.now ≤ LONGEST_OPTIONS }
     ensures { Gives result (pairs_of 1 (lines_of text.now)) }
 {
     let mut pairs = Pairs::new(alloc);

@@ -4,6 +4,7 @@ use Rattle.std.specs.Prelude.{ok_or, bytes_eq, codes, nat_le, take_while}
 use Rattle.std.specs.List.{list_all}
 use Rattle.std.specs.Char.{is_ascii_digit}
 use Rattle.std.proofs.lemmas.Bool.Decides.{nat_tests}
+use Rattle.fnc_journal.specs.declared.limits.TheConstants.{DAY}
 use Rattle.fnc_journal.specs.declared.cause.Cause.{Cause}
 use Rattle.fnc_journal.specs.declared.entry.Kind.{Kind}
 use Rattle.fnc_journal.specs.declared.entry.LevelTarget.{LevelTarget}
@@ -86,30 +87,30 @@ kind word =
     (λ bytes u. there IsAskable (action bytes) Cause.BadAction (askable (bytes_eq bytes (codes "on")) (bytes_eq bytes (codes "off")) (bytes_eq bytes (codes "reboot"))))
 
 -- a duration is at most a day
-within_a_day-bound : (ms : ℕ) → IfOk (within_a_day ms) (λ n. n ≤ 86400000)
-within_a_day-bound ms = go (nat_le ms 86400000) refl
+within_a_day-bound : (ms : ℕ) → IfOk (within_a_day ms) (λ n. n ≤ DAY)
+within_a_day-bound ms = go (nat_le ms DAY) refl
   where
-    go : (b : Bool) → nat_le ms 86400000 ≡ b → IfOk (cond b (Ok ms) (Err DurationFault.TooLarge)) (λ n. n ≤ 86400000)
+    go : (b : Bool) → nat_le ms DAY ≡ b → IfOk (cond b (Ok ms) (Err DurationFault.TooLarge)) (λ n. n ≤ DAY)
     go true e = grind (arith, nat_tests)
     go false e = tt
 
-counted-bound : (n : ℕ) (u : Option ℕ) → IfOk (counted n u) (λ n. n ≤ 86400000)
+counted-bound : (n : ℕ) (u : Option ℕ) → IfOk (counted n u) (λ n. n ≤ DAY)
 counted-bound n None = tt
 counted-bound n (Some ms) = within_a_day-bound (n * ms)
 
-duration-bound : (text : List ℕ) → IfOk (duration text) (λ n. n ≤ 86400000)
+duration-bound : (text : List ℕ) → IfOk (duration text) (λ n. n ≤ DAY)
 duration-bound [] = tt
 duration-bound (b ∷ bs) = go (is_ascii_digit b)
   where
-    go : (digit : Bool) → IfOk (cond digit (counted (digits_value (take_while is_ascii_digit (b ∷ bs))) (unit (after_digits (b ∷ bs)))) (Err DurationFault.NoDigits)) (λ n. n ≤ 86400000)
+    go : (digit : Bool) → IfOk (cond digit (counted (digits_value (take_while is_ascii_digit (b ∷ bs))) (unit (after_digits (b ∷ bs)))) (Err DurationFault.NoDigits)) (λ n. n ≤ DAY)
     go true = counted-bound (digits_value (take_while is_ascii_digit (b ∷ bs))) (unit (after_digits (b ∷ bs)))
     go false = tt
 
 -- a total is a millisecond to a day
 abbrev pub IsTotal : ℕ → Type 0
-IsTotal ms = (1 ≤ ms) × (ms ≤ 86400000)
+IsTotal ms = (1 ≤ ms) × (ms ≤ DAY)
 
-least : (d : Result ℕ DurationFault) → IfOk d (λ n. n ≤ 86400000) → IfSome (at_least_one d) IsTotal
+least : (d : Result ℕ DurationFault) → IfOk d (λ n. n ≤ DAY) → IfSome (at_least_one d) IsTotal
 least (Err fault) h = tt
 least (Ok ms) h = go (nat_le 1 ms) refl
   where

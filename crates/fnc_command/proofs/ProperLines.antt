@@ -2,6 +2,7 @@
 use Rattle.std.proofs.Common.{◌≡◌, ℕ, ◌≤◌, List, [], ◌∷◌, Bool, true, false, cond, Option, Some, None, Result, Ok, Err, IfOk, IfSome, subst}
 use Rattle.std.specs.Prelude.{ok_or, bytes_eq, codes}
 use Rattle.std.specs.Option.{option_or}
+use Rattle.fnc_journal.specs.declared.limits.TheConstants.{GREATEST_MOMENT}
 use Rattle.fnc_journal.specs.declared.cause.Cause.{Cause}
 use Rattle.fnc_command.specs.declared.command.Command.{Command}
 use Rattle.fnc_command.specs.declared.command.ExitRead.{ExitRead}
@@ -70,8 +71,8 @@ after-begun mode moment (word ∷ ws) p =
 begun : (mode : Mode) (ws : List (List ℕ)) → IfOk (beginning mode ws) (IsBegun mode)
 begun mode [] = tt
 begun Mode.Timed (word ∷ ws) =
-    each (λ n. n ≤ 1000000000000000) (IsBegun Mode.Timed) (moment_of word) (λ moment. after_moment Mode.Timed (Some moment) ws)
-    (caused (λ n. n ≤ 1000000000000000) Cause.BadMoment (number_of 1000000000000000 word) (number_within 1000000000000000 word))
+    each (λ n. n ≤ GREATEST_MOMENT) (IsBegun Mode.Timed) (moment_of word) (λ moment. after_moment Mode.Timed (Some moment) ws)
+    (caused (λ n. n ≤ GREATEST_MOMENT) Cause.BadMoment (number_of GREATEST_MOMENT word) (number_within GREATEST_MOMENT word))
     (λ moment h. after-begun Mode.Timed (Some moment) ws h)
 begun Mode.Live (word ∷ ws) = after-begun Mode.Live None (word ∷ ws) tt
 

@@ -2,6 +2,7 @@
 use Rattle.std.proofs.Common.{◌≡◌, ℕ, ◌≤◌, List, [], ◌∷◌, Bool, true, false, cond, Option, Some, None, Result, Ok, Err, IfOk, IfSome, IsTrue, refl, sym, arith, subst, lit≤}
 use Rattle.std.specs.Prelude.{ok_or, bytes_eq, codes, is_none, unwrap_or}
 use Rattle.std.specs.List.{list_all}
+use Rattle.fnc_journal.specs.declared.limits.TheConstants.{DEFAULT_TOTAL}
 use Rattle.fnc_journal.specs.declared.cause.Cause.{Cause}
 use Rattle.fnc_text.specs.Digits.{number}
 use Rattle.fnc_text.specs.Durations.{duration}
@@ -106,7 +107,7 @@ options-proper mode before (word ∷ ws) h =
     each (IsProperOptions mode) (IsProperOptions mode) (with_cut mode before word (cut_option word)) (λ next. with_words mode next ws) (cut-proper mode before word (cut_option word) h)
     (λ next p. options-proper mode next ws p)
 
-total-proper : (t : Option ℕ) → IfSome t IsTotal → IsTotal (unwrap_or t 600000)
+total-proper : (t : Option ℕ) → IfSome t IsTotal → IsTotal (unwrap_or t DEFAULT_TOTAL)
 total-proper None h = (lit≤ tt, lit≤ tt)
 total-proper (Some ms) h = h
 
@@ -125,7 +126,7 @@ module _ (mode : Mode) where
   ask : (a : Asking) → IfOk (ask_of mode a) (IsSaid mode Verb.Ask)
   ask a =
       each IsNamed (IsSaid mode Verb.Ask) (name_of a.client) _ (name a.client)
-      (λ client named. of_three IsAskable IsNamed (IsProperOptions mode) (IsSaid mode Verb.Ask) (action_of a.action) (name_of a.target) (with_words mode no_options a.options) (λ k t o. Command.Ask client k t (unwrap_or o.total 600000) o.coin)
+      (λ client named. of_three IsAskable IsNamed (IsProperOptions mode) (IsSaid mode Verb.Ask) (action_of a.action) (name_of a.target) (with_words mode no_options a.options) (λ k t o. Command.Ask client k t (unwrap_or o.total DEFAULT_TOTAL) o.coin)
       (kind a.action) (name a.target) (options-proper mode no_options a.options (tt, tt))
       (λ k t o askable target options. let within = total-proper o.total options.0 in ((named, askable, target, within.0, within.1, options.1), refl)))
 

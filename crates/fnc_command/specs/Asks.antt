@@ -1,5 +1,6 @@
 -- The words of `ask`, with its options: the total, and in mode Timed the coin.
 use Rattle.std.specs.Prelude.{ℕ, List, [], ◌∷◌, if◌then◌else◌, nat_le, length, codes, bytes_eq, is_none, ok_or, unwrap_or, Option, Some, None, Result, Ok, Err}
+use Rattle.fnc_journal.specs.declared.limits.TheConstants.{DEFAULT_TOTAL}
 use Rattle.fnc_journal.specs.declared.cause.Cause.{Cause}
 use Rattle.fnc_text.specs.declared.duration.DurationFault.{DurationFault}
 use Rattle.fnc_text.specs.Digits.{number}
@@ -67,7 +68,7 @@ no_options = record { total = None; coin = None }
 abbrev pub ask_of : Mode → Asking → Result Command Cause
 ask_of mode a =
     and_then (name_of a.client) (λ client. and_then (action_of a.action) (λ kind. and_then (name_of a.target) (λ target. and_then (with_words mode no_options a.options) (λ o.
-    Ok (Command.Ask client kind target (unwrap_or o.total 600000) o.coin)))))
+    Ok (Command.Ask client kind target (unwrap_or o.total DEFAULT_TOTAL) o.coin)))))
 
 -- `ask CLIENT ACTION TARGET [total=DURATION] [coin=NUMBER]`, in mode Live without the coin
 abbrev pub said_ask : Mode → List (List ℕ) → Result Command Cause

@@ -1,6 +1,7 @@
 -- Targets and devices of a level.
 use Rattle.std.specs.Prelude.{ℕ, List, [], ◌∷◌, Bool, false, ◌&&◌, ◌==◌, if◌then◌else◌, nat_le, length, drop, Result, Ok}
 use Rattle.std.specs.List.{list_all, slice_split}
+use Rattle.fnc_journal.specs.declared.limits.TheConstants.{LONGEST_NAME}
 use Rattle.fnc_journal.specs.declared.cause.Cause.{Cause}
 use Rattle.fnc_journal.specs.declared.entry.LevelTarget.{LevelTarget}
 use Rattle.fnc_text.specs.Names.{is_name}
@@ -16,7 +17,7 @@ is_marked (b ∷ bs) = b == 126
 
 -- whether a text is a pattern: 1 to 255 bytes, of any kind
 abbrev pub is_pattern : List ℕ → Bool
-is_pattern t = nat_le 1 (length t) && nat_le (length t) 255
+is_pattern t = nat_le 1 (length t) && nat_le (length t) LONGEST_NAME
 
 -- the pattern that the rest of a word spells
 abbrev pub pattern_of : List ℕ → Result LevelTarget Cause

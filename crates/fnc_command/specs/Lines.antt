@@ -2,6 +2,7 @@
 use Rattle.std.specs.Prelude.{ℕ, List, [], ◌∷◌, if◌then◌else◌, nat_lt, length, codes, bytes_eq, ok_or, Option, Some, None, Result, Ok, Err}
 use Rattle.std.specs.Option.{option_or}
 use Rattle.std.specs.Str.{is_utf8}
+use Rattle.fnc_journal.specs.declared.limits.TheConstants.{GREATEST_MOMENT, LONGEST_LINE}
 use Rattle.fnc_journal.specs.declared.cause.Cause.{Cause}
 use Rattle.fnc_text.specs.Words.{words}
 use Rattle.fnc_command.specs.declared.command.Command.{Command}
@@ -23,7 +24,7 @@ as_cause cause (Err other) = Err cause
 
 -- the moment that a word spells, in milliseconds
 abbrev pub moment_of : List ℕ → Result ℕ Cause
-moment_of word = as_cause Cause.BadMoment (number_of 1000000000000000 word)
+moment_of word = as_cause Cause.BadMoment (number_of GREATEST_MOMENT word)
 
 -- the verbs of both modes
 abbrev pub common_verb : List ℕ → Option Verb
@@ -87,7 +88,7 @@ command mode Verb.Confirm ws = said_confirm ws
 -- the words of a line that can be read: at most 8192 bytes of UTF-8
 abbrev pub readable : List ℕ → Result (List (List ℕ)) Cause
 readable line =
-    if nat_lt 8192 (length line) then Err Cause.TooLong
+    if nat_lt LONGEST_LINE (length line) then Err Cause.TooLong
     else (if is_utf8 line then Ok (words line) else Err Cause.NotUtf8)
 
 -- what a line says after its beginning

@@ -1,6 +1,7 @@
 -- What holds of every line that is read, whatever it says.
 use Rattle.std.specs.Prelude.{ℕ, ◌≤◌, ◌<◌, ◌^◌, IsTrue, IfSome, Option, Some, None}
 use Rattle.std.specs.List.{list_all}
+use Rattle.fnc_journal.specs.declared.limits.TheConstants.{DAY, GREATEST_MOMENT}
 use Rattle.fnc_journal.specs.declared.entry.Kind.{Kind}
 use Rattle.fnc_journal.specs.declared.entry.LevelTarget.{LevelTarget}
 use Rattle.fnc_text.specs.Names.{is_name}
@@ -16,9 +17,9 @@ abbrev pub IsTimed : Mode → Type 0
 IsTimed Mode.Timed = Unit {0}
 IsTimed Mode.Live = ⊥
 
--- a moment is there exactly in mode Timed, and is at most 10^15
+-- a moment is there exactly in mode Timed, and is at most the greatest
 abbrev pub IsProperMoment : Mode → Option ℕ → Type 0
-IsProperMoment Mode.Timed (Some moment) = moment ≤ 1000000000000000
+IsProperMoment Mode.Timed (Some moment) = moment ≤ GREATEST_MOMENT
 IsProperMoment Mode.Timed None = ⊥
 IsProperMoment Mode.Live (Some moment) = ⊥
 IsProperMoment Mode.Live None = Unit {0}
@@ -48,7 +49,7 @@ IsProperCommand mode (Command.Level target index devices) = IsProperTarget targe
 IsProperCommand mode (Command.Unlevel target index) = IsProperTarget target
 IsProperCommand mode (Command.Agent name json) = IsTrue (is_agent_name name)
 IsProperCommand mode (Command.Ask client kind target total coin) =
-    IsTrue (is_name client) × IsAskable kind × IsTrue (is_name target) × (1 ≤ total) × (total ≤ 86400000) × IsProperCoin mode coin
+    IsTrue (is_name client) × IsAskable kind × IsTrue (is_name target) × (1 ≤ total) × (total ≤ DAY) × IsProperCoin mode coin
 IsProperCommand mode (Command.Exit run exit output) = IsTimed mode × (run.0 < 2 ^ 32)
 IsProperCommand mode Command.Pass = IsTimed mode
 IsProperCommand mode (Command.Confirm client target) = IsTrue (is_name client) × IsTrue (is_name target)
@@ -59,4 +60,4 @@ IsProper mode read = IsProperMoment mode read.moment × IsProperCommand mode rea
 
 -- what holds of an exit that is read
 abbrev pub IsProperExit : ExitRead → Type 0
-IsProperExit exit = (exit.moment ≤ 1000000000000000) × (exit.run.0 < 2 ^ 32)
+IsProperExit exit = (exit.moment ≤ GREATEST_MOMENT) × (exit.run.0 < 2 ^ 32)

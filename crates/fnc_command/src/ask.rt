@@ -14,12 +14,10 @@ use crate::option_word::cut_option;
 use crate::spelling::spell;
 use crate::word::{first_word, wanted_word};
 use fnc_journal::Cause;
+use fnc_journal::limits::DEFAULT_TOTAL;
 use fnc_outside::LineBuf;
 use fnc_text::{read_duration, read_number};
 use std::alloc::Global;
-
-/// The total of a request that says none, in milliseconds.
-const DEFAULT_TOTAL: u64 = 600_000;
 
 /// The options that a request can have.
 #[derive(Clone, Copy)]

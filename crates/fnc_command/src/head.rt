@@ -9,10 +9,8 @@ use crate::field::{is_word, number};
 use crate::spelling::spell;
 use crate::word::{first_word, wanted_word};
 use fnc_journal::Cause;
+use fnc_journal::limits::GREATEST_MOMENT;
 use fnc_outside::LineBuf;
-
-/// The last moment, in milliseconds.
-const LAST_MOMENT: u64 = 1_000_000_000_000_000;
 
 /// What a line is about.
 #[derive(Clone, Copy)]
@@ -60,7 +58,7 @@ fn read_moment(word: &[u8], out: &mut LineBuf) -> Result<u64, Cause>
     ensures read { result ≡ moment_of word.now }
     ensures size { out.new.size ≡ out.old.size }
 {
-    match number(word, LAST_MOMENT, out) {
+    match number(word, GREATEST_MOMENT, out) {
         Ok(moment) => Ok(moment),
         Err(_) => Err(Cause::BadMoment),
     }

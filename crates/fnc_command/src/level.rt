@@ -10,12 +10,11 @@ ghost use Rattle.fnc_command.specs.Levels.{is_marked, pattern_of, target_of, com
 use crate::command::Command;
 use crate::field::{name, number, text};
 use crate::word::{three_words, two_words};
+use fnc_journal::limits::LONGEST_NAME;
 use fnc_journal::{Cause, LevelTarget, Names, NoMemory, Text};
 use fnc_outside::LineBuf;
 use fnc_text::is_name;
 use std::alloc::Global;
-
-const LONGEST_PATTERN: usize = 255;
 
 /// `level INDEX TARGET DEVICES`
 pub fn read_level(alloc: Global, line: &[u8], out: &mut LineBuf) -> Result<Command, Cause>
@@ -73,7 +72,7 @@ fn read_pattern(alloc: Global, word: &[u8], out: &mut LineBuf) -> Result<LevelTa
 {
     let pattern = text(alloc, word, out)?;
     let length = pattern.as_str().len();
-    if 1 <= length && length <= LONGEST_PATTERN {
+    if 1 <= length && length <= LONGEST_NAME {
         Ok(LevelTarget::Pattern(pattern))
     } else {
         Err(Cause::BadName)

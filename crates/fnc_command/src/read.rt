@@ -15,19 +15,17 @@ use crate::head::{Head, Verb, read_head};
 use crate::level::{read_level, read_unlevel};
 use crate::verb::{read_agent, read_confirm, read_ended, read_exit_words, read_pass, read_remove};
 use fnc_journal::Cause;
+use fnc_journal::limits::LONGEST_LINE;
 use fnc_outside::LineBuf;
 use std::alloc::Global;
 use std::str::from_utf8;
-
-/// The longest line, in bytes.
-const LONGEST_LINE: usize = 8_192;
 
 /// What a line says, or the first cause why it says nothing. Memory is refused only for a line that
 /// is not too long.
 pub fn read_command(alloc: Global, line: &[u8], mode: Mode) -> Result<Read, Cause>
     ensures ok { IfOk result (λ read. said mode line.now ≡ Ok read) }
     ensures err { IfErr result (λ cause. (cause ≡ Cause.NoMemory) ⊎ (said mode line.now ≡ Err cause)) }
-    ensures long { 8192 < length line.now → result ≡ Err Cause.TooLong }
+    ensures long { LONGEST_LINE < length line.now → result ≡ Err Cause.TooLong }
     ensures proper { IfOk result (λ read. IsProper mode read) }
 {
     read_line(alloc, line, mode)
@@ -35,7 +33,7 @@ pub fn read_command(alloc: Global, line: &[u8], mode: Mode) -> Result<Read, Caus
 
 fn read_line(alloc: Global, line: &[u8], mode: Mode) -> Result<Read, Cause>
     ensures told { Tells result (said mode line.now) }
-    ensures long { 8192 < length line.now → result ≡ Err Cause.TooLong }
+    ensures long { LONGEST_LINE < length line.now → result ≡ Err Cause.TooLong }
 {
     check_readable(line)?;
     let mut out = buffer(alloc, line)?;
@@ -50,7 +48,7 @@ fn read_line(alloc: Global, line: &[u8], mode: Mode) -> Result<Read, Cause>
 /// Whether a line can be read: it has at most 8,192 bytes, of UTF-8.
 fn check_readable(line: &[u8]) -> Result<(), Cause>
     ensures read { MatchResult result (λ _. readable line.now ≡ Ok (words line.now)) (λ cause. readable line.now ≡ Err cause) }
-    ensures short { IfOk result (λ _. length line.now ≤ 8192) }
+    ensures short { IfOk result (λ _. length line.now ≤ LONGEST_LINE) }
 {
     if line.len() > LONGEST_LINE {
         return Err(Cause::TooLong);
@@ -72,7 +70,7 @@ fn is_utf8(line: &[u8]) -> bool
 
 /// A buffer for the words of a line.
 fn buffer(alloc: Global, line: &[u8]) -> Result<LineBuf, Cause>
-    requires { length line.now ≤ 8192 }
+    requires { length line.now ≤ LONGEST_LINE }
     ensures { MatchResult result (λ b. b.size ≡ length line.now) (λ cause. cause ≡ Cause.NoMemory) }
 {
     match LineBuf::with_size(alloc, line.len() as u32) {

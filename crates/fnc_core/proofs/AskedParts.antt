@@ -1,10 +1,8 @@
 -- The parts after a request, where the records stand for the journal with it and the queue holds what is then wanted.
 use Rattle.std.proofs.Common.{ℕ, List, ◌∷◌, Bool, true, false, ◌≡◌, ◌≤◌, ◌+◌, ◌==◌, ◌||◌, refl, ap, sym, ◌∙◌, subst, arith, length, eq-eqb, eqb-true, ne_eqb, max, cond, ◌*◌, Option, Some, None}
 use Rattle.std.specs.Prelude.{option_map, unwrap_or}
+use Rattle.fnc_journal.specs.declared.event.Request.{Request}
 use Rattle.fnc_journal.specs.declared.event.Event.{Event}
-use Rattle.fnc_journal.specs.declared.entry.Kind.{Kind}
-use Rattle.fnc_journal.specs.declared.entry.Req.{Req}
-use Rattle.fnc_journal.specs.declared.entry.Scope.{Scope}
 use Rattle.fnc_journal.specs.declared.plan.Plan.{Plan}
 use Rattle.fnc_journal.specs.History.{History}
 use Rattle.fnc_journal.specs.Plan as Planned
@@ -14,11 +12,11 @@ use Rattle.fnc_journal.specs.Operations.{settled, joined}
 use Rattle.fnc_journal.specs.Slots.{Operation, all_slots}
 use Rattle.fnc_journal.specs.Owed.{owed, tries_of}
 use Rattle.fnc_journal.proofs.Lawfulness.{and-left}
-use Rattle.fnc_ops.specs.declared.ops.Operation.{Operation as Request}
+use Rattle.fnc_ops.specs.declared.ops.Operation.{Operation as Begun}
 use Rattle.fnc_ops.specs.FreshRecords.{begun_by, wanted_by}
 use Rattle.fnc_ops.specs.Kept.{Kept}
 use Rattle.fnc_ops.specs.OpsRecords.{AllWait, OthersWait}
-use Rattle.fnc_ops.specs.Stands.{StandsFor, AreAt}
+use Rattle.fnc_ops.specs.Stands.{StandsFor, AreAt, begun_request}
 use Rattle.fnc_queue.specs.Lanes.{lane_count}
 use Rattle.fnc_queue.specs.declared.waiting.Waiting.{Waiting}
 use Rattle.fnc_queue.specs.Items.{item_of, is_waiting, Changes}
@@ -30,12 +28,12 @@ use Rattle.fnc_core.proofs.OwedAsks.{joined-open, owed-joined, owed-begun}
 use Rattle.fnc_core.proofs.Resting.{lawful-entered}
 
 -- a request in order has the next number
-pub ordered-next : (req lead : Req) (client : List ℕ) (kind : Kind) (target : List ℕ) (total coin : ℕ) (scope : Scope) (h : History) → in_order (Event.Ask (record { req = req; lead = lead; client = client; kind = kind; target = target; total = total; coin = coin; scope = scope })) h ≡ true → req.0 ≡ asks h
-ordered-next req lead client kind target total coin scope h i = eqb-true req.0 (asks h) (and-left _ _ (and-left _ _ (and-left _ _ (and-left _ _ i))))
+pub ordered-next : (q : Request) (h : History) → in_order (Event.Ask q) h ≡ true → q.req.0 ≡ asks h
+ordered-next q h i = eqb-true q.req.0 (asks h) (and-left _ _ (and-left _ _ (and-left _ _ (and-left _ _ i))))
 
-module _ (m : ℕ) (req lead : Req) (client : List ℕ) (kind : Kind) (target : List ℕ) (total coin : ℕ) (scope : Scope) (p : Parted) (rests : Rests m p) where
+module _ (m : ℕ) (request : Request) (p : Parted) (rests : Rests m p) where
   abbrev event : Event
-  event = Event.Ask (record { req = req; lead = lead; client = client; kind = kind; target = target; total = total; coin = coin; scope = scope })
+  event = Event.Ask request
 
   abbrev after : History
   after = entry m event ∷ p.history
@@ -64,17 +62,18 @@ module _ (m : ℕ) (req lead : Req) (client : List ℕ) (kind : Kind) (target : 
       }
 
   -- where it joins an operation, in room that was taken for what is owed with it
-  pub between-joined : (q : Parted) → Adds m event p q → in_order event p.history ≡ true → option_map (λ (o : Operation). o.req) (joined p.history m kind target) ≡ Some lead.0 → RoomFor p 2 →
+  pub between-joined : (q : Parted) → Adds m event p q → in_order event p.history ≡ true → option_map (λ (o : Operation). o.req) (joined p.history m request.kind request.target) ≡ Some request.lead.0 → RoomFor p 2 →
       StandsFor q.ops after → AreAt m q.ops.operations → AllWait p.ops q.ops → q.queue ≡ reserved (owed p.history + 1) p.queue → Between m q
   between-joined q a ordered led room s at w taken =
-      between-asked q a ordered (rw led (eq-eqb lead.0 lead.0 refl)) s at
+      between-asked q a ordered (rw led (eq-eqb request.lead.0 request.lead.0 refl)) s at
       (λ n. ap (λ (u : Queued). item_of n u.waiting) taken ∙ rests.between.waits n ∙ sym (ap (option_map (item_for after n)) (w n)))
       (ap (λ (u : Queued). u.alive) taken)
       (let more : owed after ≤ owed p.history + 1 = owes in let spare : q.queue.spare ≡ max p.queue.spare (owed p.history + 1) = ap (λ (u : Queued). u.spare) taken in omega (arith, more, spare))
       (let more : owed after ≤ owed p.history + 1 = owes in let left : length p.history + owed p.history + 2 ≤ p.limit = room in omega (arith, more, left))
     where
       owes : owed after ≤ owed p.history + 1
-      owes = owed-joined p.history rests.between.lawful m req lead client kind target total coin scope (ordered-next req lead client kind target total coin scope p.history ordered) (joined-open p.history m kind target lead.0 led)
+      owes = owed-joined p.history rests.between.lawful m request (ordered-next request p.history ordered)
+          (joined-open p.history m request.kind request.target request.lead.0 led)
 
 one-most : (req : ℕ) (items : List Waiting) → one_if_held req items ≤ 1
 one-most req items = go (is_waiting req items)
@@ -84,9 +83,9 @@ one-most req items = go (is_waiting req items)
     go false = omega arith
 
 -- an operation that begins has its item in a queue that had room for what is owed with it
-module _ (r : Request) (plan : Plan) (client : List ℕ) (p : Parted) (rests : Rests r.moment p) where
+module _ (r : Begun) (plan : Plan) (client : List ℕ) (p : Parted) (rests : Rests r.moment p) where
   abbrev event_begun : Event
-  event_begun = Event.Ask (record { req = r.req; lead = r.req; client = client; kind = r.kind; target = r.target; total = r.total; coin = r.coin; scope = plan.scope })
+  event_begun = Event.Ask (begun_request r client plan.scope)
 
   abbrev after_begun : History
   after_begun = entry r.moment event_begun ∷ p.history
@@ -109,11 +108,11 @@ module _ (r : Request) (plan : Plan) (client : List ℕ) (p : Parted) (rests : R
       length p.history + room_begun ≤ p.limit → StandsFor q.ops after_begun → AreAt r.moment q.ops.operations → OthersWait r.req.0 p.ops q.ops →
       Changes r.req.0 (wanted after_begun r.req.0 q.ops) p.queue.waiting q.queue.waiting → q.queue.alive ≡ p.queue.alive → room_begun ≤ q.queue.spare + one_if_held r.req.0 q.queue.waiting → Between r.moment q
   between-begun q a ordered led planned room s at others changes alive spare =
-      between-asked r.moment r.req r.req client r.kind r.target r.total r.coin plan.scope p rests q a ordered
+      between-asked r.moment (begun_request r client plan.scope) p rests q a ordered
       (ap (λ (x : Option Operation). r.req.0 == unwrap_or (option_map (λ (o : Operation). o.req) x) r.req.0) led ∙ eq-eqb r.req.0 r.req.0 refl)
       s at (waits-begun q.ops q.queue others changes) alive
       (let one : one_if_held r.req.0 q.queue.waiting ≤ 1 = one-most r.req.0 q.queue.waiting in omega (arith, owes, one, spare))
       (omega (arith, owes, room))
     where
       owes : owed after_begun ≡ owed p.history + 1 + 2 * tries_of (all_slots (begun_by r plan p.history))
-      owes = owed-begun r plan p.history client rests.between.lawful (ordered-next r.req r.req client r.kind r.target r.total r.coin plan.scope p.history ordered) planned rests.between.bounded
+      owes = owed-begun r plan p.history client rests.between.lawful (ordered-next (begun_request r client plan.scope) p.history ordered) planned rests.between.bounded

@@ -40,10 +40,10 @@ follows-asks old mid new m k p a f = record {
 pub same-event : (g h : History) (change : Change) → devices g ≡ devices h → event_of g change ≡ event_of h change
 same-event g h (Change.Device registration) e = ap (λ n. Event.Device (record { reg = record { 0 = n }; registration = registration })) e
 same-event g h (Change.Gone reg) e = refl
-same-event g h (Change.Level target index names) e = refl
-same-event g h (Change.LevelGone target index) e = refl
-same-event g h (Change.Agent name description) e = refl
-same-event g h (Change.Confirm client target) e = refl
+same-event g h (Change.Level set) e = refl
+same-event g h (Change.LevelGone cleared) e = refl
+same-event g h (Change.Agent described) e = refl
+same-event g h (Change.Confirm word) e = refl
 
 -- what joins nothing, and what joins an operation
 pub none-joined : (x : Option Operation) → ◌≡◌ {A = Option ℕ} None (option_map (λ (o : Operation). o.req) x) → x ≡ None

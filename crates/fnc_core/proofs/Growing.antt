@@ -10,7 +10,7 @@ use Rattle.fnc_journal.specs.Found.{is_reply}
 use Rattle.fnc_journal.specs.Served.{AreReplies}
 use Rattle.fnc_journal.proofs.Each.{each-map}
 use Rattle.fnc_core.specs.declared.change.Started.{Started}
-use Rattle.fnc_core.specs.Between.{entry}
+use Rattle.fnc_core.specs.Between.{entry, start_of}
 use Rattle.fnc_core.specs.Cored.{Cored, Advances, Enters, Starts, ask_event}
 use Rattle.fnc_core.specs.Calls.{IsCall, AreCalls, Grows, after_all, but_replies, entered_by, entered_by_all}
 
@@ -69,7 +69,7 @@ module _ (old new : Cored) where
   grows-began s x =
       let last : new.last ≡ old.last = x.last in
       record {
-        more = entry old.last (Event.Start (record { run = s.run; req = s.req; slot = s.slot; reg = s.reg; kind = s.kind; attempt = s.attempt })) ∷ [];
+        more = entry old.last (Event.Start (start_of s)) ∷ [];
         history = x.history;
         came = ((omega arith, omega (arith, last)), tt);
         later = omega (arith, last);

@@ -2,12 +2,12 @@
 use Rattle.std.proofs.Common.{ℕ, List, [], ◌∷◌, ◌++◌, Bool, true, false, ◌≡◌, ◌+◌, refl, ap, sym, ◌∙◌, Option, Some, None, IsTrue, cond, not, is_some, arith, length, ◌==◌, eqb-true}
 use Rattle.std.specs.Prelude.{filter, find, option_map}
 use Rattle.std.specs.List.{AllByRecursion}
+use Rattle.fnc_journal.specs.declared.event.Ended.{Ended}
+use Rattle.fnc_journal.specs.declared.event.Start.{Start}
 use Rattle.fnc_journal.specs.declared.event.Event.{Event}
-use Rattle.fnc_journal.specs.declared.entry.Exit.{Exit}
-use Rattle.fnc_journal.specs.declared.entry.Run.{Run}
 use Rattle.fnc_journal.specs.History.{History}
 use Rattle.fnc_journal.specs.Missing.{or_here, append_some}
-use Rattle.fnc_journal.specs.Found.{Started, started, started_here, registration, has_exit}
+use Rattle.fnc_journal.specs.Found.{started, started_here, registration, has_exit}
 use Rattle.fnc_journal.specs.Registered.{lane}
 use Rattle.fnc_journal.specs.Startable.{Begun, begun_here, begun_runs, alive_runs, alive, is_alive}
 use Rattle.fnc_journal.specs.Lawful.{Lawful, in_order}
@@ -50,8 +50,8 @@ alive-entered m event h lawful o q l =
     (each-map (IsKnownRun h) (λ (b : Begun). (lane b.reg (at m event ∷ h) == l) ≡ (lane b.reg h == l)) (alive_runs h) (λ b k. ap (λ n. n == l) (lane-push b.reg m event h lawful o k)) (alive-known h lawful)))
 
 -- the run of a number among those that were started
-abbrev begun_of : ℕ → Option Started → Option Begun
-begun_of n s = option_map (λ (s : Started). record { run = n; reg = s.reg }) s
+abbrev begun_of : ℕ → Option Start → Option Begun
+begun_of n s = option_map (λ (s : Start). record { run = n; reg = s.reg.0 }) s
 
 abbrev begun : ℕ → ℕ → Begun
 begun n reg = record { run = n; reg = reg }
@@ -76,9 +76,9 @@ begun-started : (n : ℕ) (h : History) → find (λ (b : Begun). n == b.run) (b
 begun-started n [] = refl
 begun-started n (e ∷ before) = go e.event (begun-started n before)
   where
-    both : (x : Option Started) (s : Started) (run : ℕ) (c : Bool) → (n == run) ≡ c →
-        or_here (begun_of n x) (cond c (Some (record { run = run; reg = s.reg })) None) ≡ begun_of n (or_here x (cond c (Some s) None))
-    both None s run true e = ap (λ (k : ℕ). Some (begun k s.reg)) (sym (eqb-true n run e))
+    both : (x : Option Start) (s : Start) (run : ℕ) (c : Bool) → (n == run) ≡ c →
+        or_here (begun_of n x) (cond c (Some (record { run = run; reg = s.reg.0 })) None) ≡ begun_of n (or_here x (cond c (Some s) None))
+    both None s run true e = ap (λ (k : ℕ). Some (begun k s.reg.0)) (sym (eqb-true n run e))
     both None s run false e = refl
     both (Some x) s run true e = refl
     both (Some x) s run false e = refl
@@ -88,7 +88,7 @@ begun-started n (e ∷ before) = go e.event (begun-started n before)
     go (Event.Start start) ih =
         find-append (λ (b : Begun). n == b.run) (begun_runs before) (record { run = start.run.0; reg = start.reg.0 })
         ∙ ap (λ x. or_here x (cond (n == start.run.0) (Some (record { run = start.run.0; reg = start.reg.0 })) None)) ih
-        ∙ both (started n before) (record { req = start.req.0; slot = start.slot; reg = start.reg.0; kind = start.kind }) start.run.0 (n == start.run.0) refl
+        ∙ both (started n before) start start.run.0 (n == start.run.0) refl
     go _ ih = ih
 
 -- a test that the run of a number passes leaves it where it is
@@ -106,7 +106,7 @@ find-kept n h u (x ∷ xs) = go (n == x.run) refl (has_exit x.run h) refl (find-
     go false e false f ih = rw e ih
 
 -- the run of a number, where it is alive
-pub alive-begun : (n : ℕ) (h : History) → is_alive n h ≡ true → (s : Started) → started n h ≡ Some s → find (λ (b : Begun). n == b.run) (alive_runs h) ≡ Some (record { run = n; reg = s.reg })
+pub alive-begun : (n : ℕ) (h : History) → is_alive n h ≡ true → (s : Start) → started n h ≡ Some s → find (λ (b : Begun). n == b.run) (alive_runs h) ≡ Some (record { run = n; reg = s.reg.0 })
 alive-begun n h a s e = find-kept n h (unended (has_exit n h) (and-right (is_some (started n h)) (not (has_exit n h)) a)) (begun_runs h) ∙ begun-started n h ∙ ap (begun_of n) e
   where
     unended : (b : Bool) → not b ≡ true → b ≡ false
@@ -114,14 +114,14 @@ alive-begun n h a s e = find-kept n h (unended (has_exit n h) (and-right (is_som
     unended false k = refl
 
 -- after its exit its lane has one run less
-pub alive-exit : (h : History) → Lawful h → (m : ℕ) (run : Run) (exit : Exit) (listed : Bool) → is_alive run.0 h ≡ true → (s : Started) → started run.0 h ≡ Some s → (l : ℕ) →
-    alive l h ≡ cond (lane s.reg h == l) (alive l (exit_entry m run exit listed ∷ h) + 1) (alive l (exit_entry m run exit listed ∷ h))
-alive-exit h lawful m run exit listed a s e l =
+pub alive-exit : (h : History) → Lawful h → (m : ℕ) (over : Ended) → is_alive over.run.0 h ≡ true → (s : Start) → started over.run.0 h ≡ Some s → (l : ℕ) →
+    alive l h ≡ cond (lane s.reg.0 h == l) (alive l (exit_entry m over ∷ h) + 1) (alive l (exit_entry m over ∷ h))
+alive-exit h lawful m over a s e l =
     let p : Begun → Bool = λ b. lane b.reg h == l in
-    let now : alive l (exit_entry m run exit listed ∷ h) ≡ count_of p (filter (λ (b : Begun). not (b.run == run.0)) (alive_runs h)) = ap (λ (bs : List Begun). count_of p bs) (alive_runs-exit h m run exit listed) in
-    let less : count_of p (filter (λ (b : Begun). not (b.run == run.0)) (alive_runs h)) + one_if (lane s.reg h == l) ≡ alive l h =
-    count-without p run.0 (alive_runs h) (record { run = run.0; reg = s.reg }) (alive-apart h lawful) (alive-begun run.0 h a s e) in
-    sym less ∙ ap (λ n. n + one_if (lane s.reg h == l)) (sym now) ∙ with_one (lane s.reg h == l) (alive l (exit_entry m run exit listed ∷ h))
+    let now : alive l (exit_entry m over ∷ h) ≡ count_of p (filter (λ (b : Begun). not (b.run == over.run.0)) (alive_runs h)) = ap (λ (bs : List Begun). count_of p bs) (alive_runs-exit h m over) in
+    let less : count_of p (filter (λ (b : Begun). not (b.run == over.run.0)) (alive_runs h)) + one_if (lane s.reg.0 h == l) ≡ alive l h =
+    count-without p over.run.0 (alive_runs h) (record { run = over.run.0; reg = s.reg.0 }) (alive-apart h lawful) (alive-begun over.run.0 h a s e) in
+    sym less ∙ ap (λ n. n + one_if (lane s.reg.0 h == l)) (sym now) ∙ with_one (lane s.reg.0 h == l) (alive l (exit_entry m over ∷ h))
   where
     with_one : (b : Bool) (n : ℕ) → n + one_if b ≡ cond b (n + 1) n
     with_one true n = refl

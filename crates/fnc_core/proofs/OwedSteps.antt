@@ -2,9 +2,9 @@
 use Rattle.std.proofs.Common.{ℕ, List, [], ◌∷◌, Bool, true, false, ◌≡◌, ◌<◌, ◌+◌, ◌-◌, ◌*◌, ◌==◌, refl, ap, ap₂, ◌∙◌, Option, Some, None, arith, length}
 use Rattle.std.specs.Prelude.{option_map}
 use Rattle.std.specs.List.{list_any}
+use Rattle.fnc_journal.specs.declared.event.Ended.{Ended}
 use Rattle.fnc_journal.specs.declared.event.Event.{Event}
 use Rattle.fnc_journal.specs.declared.entry.Exit.{Exit}
-use Rattle.fnc_journal.specs.declared.entry.Run.{Run}
 use Rattle.fnc_journal.specs.declared.entry.Slot.{Slot}
 use Rattle.fnc_journal.specs.History.{History}
 use Rattle.fnc_journal.specs.Slots.{Operation, all_slots}
@@ -46,14 +46,14 @@ any_one n [] e = cc
 any_one n (b ∷ bs) e = omega arith
 
 -- the exit of a run that is alive is owed no more
-pub owed-exit : (h : History) → Lawful h → (m : ℕ) (run : Run) (exit : Exit) (listed : Bool) → is_alive run.0 h ≡ true → owed (exit_entry m run exit listed ∷ h) + 1 ≡ owed h
-owed-exit h l m run exit listed a =
-    let less : length (alive_runs h) - 1 ≡ length (alive_runs (exit_entry m run exit listed ∷ h)) = alive-ended h l m run exit listed a in
-    let some : 0 < length (alive_runs h) = any_one run.0 (alive_runs h) (alive-listed run.0 h ∙ a) in
-    let rest : owed_by_all (exit_entry m run exit listed ∷ h) (open_operations h) ≡ owed_by_all h (open_operations h) = owed_by_all-same (exit_entry m run exit listed ∷ h) h each (open_operations h) in
-    let now : owed (exit_entry m run exit listed ∷ h) ≡ length (alive_runs (exit_entry m run exit listed ∷ h)) + owed_by_all (exit_entry m run exit listed ∷ h) (open_operations h) = refl in
+pub owed-exit : (h : History) → Lawful h → (m : ℕ) (over : Ended) → is_alive over.run.0 h ≡ true → owed (exit_entry m over ∷ h) + 1 ≡ owed h
+owed-exit h l m over a =
+    let less : length (alive_runs h) - 1 ≡ length (alive_runs (exit_entry m over ∷ h)) = alive-ended h l m over a in
+    let some : 0 < length (alive_runs h) = any_one over.run.0 (alive_runs h) (alive-listed over.run.0 h ∙ a) in
+    let rest : owed_by_all (exit_entry m over ∷ h) (open_operations h) ≡ owed_by_all h (open_operations h) = owed_by_all-same (exit_entry m over ∷ h) h each (open_operations h) in
+    let now : owed (exit_entry m over ∷ h) ≡ length (alive_runs (exit_entry m over ∷ h)) + owed_by_all (exit_entry m over ∷ h) (open_operations h) = refl in
     let before : owed h ≡ length (alive_runs h) + owed_by_all h (open_operations h) = refl in
     omega (arith, less, some, rest, now, before)
   where
-    each : (o : Operation) → owed_by (exit_entry m run exit listed ∷ h) o ≡ owed_by h o
-    each o = ap (λ n. length (unanswered o.req h) + 2 * (tries_of (all_slots o) - n)) (begun-ended m exit listed (slot_of_run run.0 (acts o.req h)) (acts o.req h))
+    each : (o : Operation) → owed_by (exit_entry m over ∷ h) o ≡ owed_by h o
+    each o = ap (λ n. length (unanswered o.req h) + 2 * (tries_of (all_slots o) - n)) (begun-ended m over.exit over.listed (slot_of_run over.run.0 (acts o.req h)) (acts o.req h))

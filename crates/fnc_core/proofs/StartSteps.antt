@@ -2,10 +2,9 @@
 use Rattle.std.proofs.Common.{ℕ, List, [], ◌∷◌, ◌++◌, Bool, true, false, ◌≡◌, ◌≤◌, ◌+◌, ◌==◌, ◌||◌, refl, ap, ap₂, sym, ◌∙◌, subst, Option, Some, None, cond, arith, length, is_some, eqb-true, eq-eqb, ne_eqb}
 use Rattle.std.specs.Prelude.{find, filter, option_map, option_and_then}
 use Rattle.std.specs.List.{list_any}
+use Rattle.fnc_journal.specs.declared.event.Start.{Start}
 use Rattle.fnc_journal.specs.declared.event.Event.{Event}
 use Rattle.fnc_journal.specs.declared.entry.Kind.{Kind}
-use Rattle.fnc_journal.specs.declared.entry.Reg.{Reg}
-use Rattle.fnc_journal.specs.declared.entry.Req.{Req}
 use Rattle.fnc_journal.specs.declared.entry.Run.{Run}
 use Rattle.fnc_journal.specs.declared.entry.Slot.{Slot}
 use Rattle.fnc_journal.specs.declared.definition.Registration.{Registration}
@@ -95,69 +94,69 @@ known-registered h s k = go (registration s.task.reg h) k
     go (Some r) f = refl
 
 -- what is known of a start that was made: the queue and the records have it
-pub record IsMade (m : ℕ) (p : Parted) (run : Run) (req : Req) (slot : Slot) (reg : Reg) (kind : Kind) (attempt : ℕ) (item : Waiting) (s : Startable) (v : Kept) (q : Queued) : Type 0 where
+pub record IsMade (m : ℕ) (p : Parted) (start : Start) (item : Waiting) (s : Startable) (v : Kept) (q : Queued) : Type 0 where
   pub rests : Rests m p
-  pub number : run.0 ≡ starts p.history
+  pub number : start.run.0 ≡ starts p.history
   pub is_first : first p.history m ≡ Some s
   pub is_start : IsStartOf p.history m item s
-  pub req_is : req.0 ≡ s.operation.req
-  pub slot_is : slot ≡ s.task.slot
-  pub reg_is : reg.0 ≡ s.task.reg
-  pub kind_is : kind ≡ s.task.kind
-  pub attempt_is : attempt ≡ runs s.task.slot (acts s.operation.req p.history) + 1
-  pub stands : StandsFor v (start_entry m run req s.task.slot reg kind attempt ∷ p.history)
+  pub req_is : start.req.0 ≡ s.operation.req
+  pub slot_is : start.slot ≡ s.task.slot
+  pub reg_is : start.reg.0 ≡ s.task.reg
+  pub kind_is : start.kind ≡ s.task.kind
+  pub attempt_is : start.attempt ≡ runs s.task.slot (acts s.operation.req p.history) + 1
+  pub stands : StandsFor v (start_entry m start ∷ p.history)
   pub at : AreAt m v.operations
-  pub settled_after : settled (start_entry m run req slot reg kind attempt ∷ p.history) m ≡ true
-  pub waits : waiting req.0 v.operations ≡ None
-  pub others : OthersWait req.0 p.ops v
-  pub owes : owed (start_entry m run req s.task.slot reg kind attempt ∷ p.history) + 1 ≡ owed p.history
+  pub settled_after : settled (start_entry m start ∷ p.history) m ≡ true
+  pub waits : waiting start.req.0 v.operations ≡ None
+  pub others : OthersWait start.req.0 p.ops v
+  pub owes : owed (start_entry m start ∷ p.history) + 1 ≡ owed p.history
   pub changes : Changes item.req.0 None p.queue.waiting q.waiting
   pub counts : CountsOneMore item.lane.0 p.queue.alive q.alive
   pub spare : q.spare ≡ p.queue.spare
 
-module _ (m : ℕ) (p : Parted) (run : Run) (req : Req) (slot : Slot) (reg : Reg) (kind : Kind) (attempt : ℕ) (item : Waiting) (s : Startable) (v : Kept) (q : Queued)
-    (made : IsMade m p run req slot reg kind attempt item s v q) where
+module _ (m : ℕ) (p : Parted) (start : Start) (item : Waiting) (s : Startable) (v : Kept) (q : Queued)
+    (made : IsMade m p start item s v q) where
   abbrev after : History
-  after = start_entry m run req slot reg kind attempt ∷ p.history
+  after = start_entry m start ∷ p.history
 
-  same-number : item.req.0 ≡ req.0
+  same-number : item.req.0 ≡ start.req.0
   same-number = made.is_start.number ∙ sym made.req_is
 
-  lawful-after : LawfulEntry (start_entry m run req slot reg kind attempt) p.history
+  lawful-after : LawfulEntry (start_entry m start) p.history
   lawful-after =
-      start-as p.history m run s.operation.req req.0 s.task.slot slot s.task.reg reg.0 s.task.kind kind (runs s.task.slot (acts s.operation.req p.history) + 1) attempt
+      start-as p.history m start.run s.operation.req start.req.0 s.task.slot start.slot s.task.reg start.reg.0 s.task.kind start.kind (runs s.task.slot (acts s.operation.req p.history) + 1) start.attempt
       (sym made.req_is) (sym made.slot_is) (sym made.reg_is) (sym made.kind_is) (sym made.attempt_is)
-      (lawful-start p.history m run s (rests-come m p made.rests) made.number made.is_first
+      (lawful-start p.history m start.run s (rests-come m p made.rests) made.number made.is_first
       (ap is_some made.is_start.open_is) (known-registered p.history s made.is_start.known) (rests-pending m p made.rests))
 
   stands-after : StandsFor v after
-  stands-after = subst (λ (z : Slot). StandsFor v (start_entry m run req z reg kind attempt ∷ p.history)) (sym made.slot_is) made.stands
+  stands-after = made.stands
 
   owes-after : owed after + 1 ≡ owed p.history
-  owes-after = subst (λ (z : Slot). owed (start_entry m run req z reg kind attempt ∷ p.history) + 1 ≡ owed p.history) (sym made.slot_is) made.owes
+  owes-after = made.owes
 
   waits-after : Waits after v q
   waits-after n = made.changes n ∙ go (item.req.0 == n) refl
     where
       go : (b : Bool) → (item.req.0 == n) ≡ b → cond b None (item_of n p.queue.waiting) ≡ wanted after n v
       go true e =
-          let same : req.0 ≡ n = sym same-number ∙ eqb-true item.req.0 n e in
+          let same : start.req.0 ≡ n = sym same-number ∙ eqb-true item.req.0 n e in
           sym (ap (option_map (item_for p.history n)) (ap (λ i. waiting i v.operations) (sym same) ∙ made.waits))
       go false e =
-          let other : (n == req.0) ≡ false = ne_eqb n req.0 (λ g. differs (eq-eqb item.req.0 n (same-number ∙ sym g))) in
+          let other : (n == start.req.0) ≡ false = ne_eqb n start.req.0 (λ g. differs (eq-eqb item.req.0 n (same-number ∙ sym g))) in
           made.rests.between.waits n ∙ sym (ap (option_map (item_for p.history n)) (made.others n other))
         where
           differs : (item.req.0 == n) ≡ true → ⊥
           differs g = let both : true ≡ false = sym g ∙ e in cc
 
-  alive-after : alive_runs after ≡ alive_runs p.history ++ record { run = run.0; reg = reg.0 } ∷ []
-  alive-after = alive_runs-start p.history made.rests.between.lawful m run req slot reg kind attempt made.number
+  alive-after : alive_runs after ≡ alive_runs p.history ++ record { run = start.run.0; reg = start.reg.0 } ∷ []
+  alive-after = alive_runs-start p.history made.rests.between.lawful m start made.number
 
   lanes-after : Lanes after q
   lanes-after l =
       made.counts l
       ∙ ap₂ (λ (i k : ℕ). cond (i == l) (k + 1) k) (made.is_start.lane_is ∙ ap (λ i. lane i p.history) (sym made.reg_is)) (made.rests.between.lanes l)
-      ∙ sym (length-end (λ (b : Begun). lane b.reg p.history == l) (alive_runs p.history) (record { run = run.0; reg = reg.0 }))
+      ∙ sym (length-end (λ (b : Begun). lane b.reg p.history == l) (alive_runs p.history) (record { run = start.run.0; reg = start.reg.0 }))
       ∙ ap (λ bs. length (filter (λ (b : Begun). lane b.reg p.history == l) bs)) (sym alive-after)
 
   places-after : HasPlaces after v q
@@ -165,7 +164,7 @@ module _ (m : ℕ) (p : Parted) (run : Run) (req : Req) (slot : Slot) (reg : Reg
       let less = held-gone item.req.0 p.queue.waiting q.waiting made.changes p.ops.operations (records-apart p.history p.ops made.rests.between.lawful made.rests.between.stands) in
       let old = held-stands p.history q.waiting p.ops.operations (open_operations p.history) made.rests.between.stands.each in
       let new = held-stands after q.waiting v.operations (open_operations p.history) stands-after.each in
-      let more = alive-started p.history made.rests.between.lawful m run req slot reg kind attempt made.number in
+      let more = alive-started p.history made.rests.between.lawful m start made.number in
       let had : owed p.history ≤ p.queue.spare + held p.ops.operations p.queue.waiting + length (alive_runs p.history) = made.rests.between.has_places in
       let most : owed after ≤ q.spare + held v.operations q.waiting + length (alive_runs after) = omega (arith, less, old, new, more, had, owes-after, made.spare) in
       most

@@ -2,6 +2,9 @@
 use Rattle.std.specs.Prelude.{ℕ, List, [], ◌∷◌, ◌++◌, Bool, true, false, ◌≡◌, ◌==◌, ◌||◌, ◌+◌, ◌*◌, ◌≤◌, ◌^◌, length, Option, Some, None, option_map, option_and_then}
 use Rattle.fnc_journal.specs.declared.entry.Entry.{Entry}
 use Rattle.fnc_journal.specs.declared.event.Event.{Event}
+use Rattle.fnc_journal.specs.declared.event.Request.{Request}
+use Rattle.fnc_journal.specs.declared.event.Start.{Start}
+use Rattle.fnc_journal.specs.declared.entry.Scope.{Scope}
 use Rattle.fnc_journal.specs.declared.entry.Answer.{Answer}
 use Rattle.fnc_journal.specs.History.{History}
 use Rattle.fnc_journal.specs.Served.{AreReplies}
@@ -106,6 +109,19 @@ abbrev pub operation_with : History → ℕ → Req → Ask → Plan → Operati
 operation_with h m req a p =
     operation_by req.0 (record { moment = m; lead = req.0; kind = a.kind; target = a.target; total = a.total; coin = a.coin; scope = p.scope; before = h }) p
 
+-- what a client asks for, as a request of a number, with its lead and its scope
+abbrev pub request_of : Req → Req → Ask → Scope → Request
+request_of req lead a scope = record {
+  req = req;
+  lead = lead;
+  client = a.client;
+  kind = a.kind;
+  target = a.target;
+  total = a.total;
+  coin = a.coin;
+  scope = scope;
+}
+
 -- the entries that a request wants which begins an operation: its own, its reply, and a start and an exit for each try
 abbrev pub need_of : History → ℕ → Req → Ask → Plan → ℕ
 need_of h m req a p = 2 + 2 * tries_of (all_slots (operation_with h m req a p))
@@ -128,6 +144,10 @@ pub record GaveReplies (m : ℕ) (old new : Parted) : Type 0 where
 abbrev pub limit_from : ℕ → ℕ → Task → Option ℕ → ℕ
 limit_from m over t at = limit_at m over (time t) at
 
+-- a start that is told, as it is entered
+abbrev pub start_of : Started → Start
+start_of s = record { run = s.run; req = s.req; slot = s.slot; reg = s.reg; kind = s.kind; attempt = s.attempt }
+
 -- what is told of the start that may be made first
 pub record IsNextStart (m : ℕ) (p : Parted) (run : Run) (s : Started) : Type 0 where
   pub startable : Startable
@@ -142,4 +162,4 @@ pub record IsNextStart (m : ℕ) (p : Parted) (run : Run) (s : Started) : Type 0
 
 -- the journal has the start as one more entry
 abbrev pub StartsNext : ℕ → Started → Parted → Parted → Type 0
-StartsNext m s old new = Adds m (Event.Start (record { run = s.run; req = s.req; slot = s.slot; reg = s.reg; kind = s.kind; attempt = s.attempt })) old new
+StartsNext m s old new = Adds m (Event.Start (start_of s)) old new

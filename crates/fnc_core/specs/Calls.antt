@@ -9,7 +9,7 @@ use Rattle.fnc_journal.specs.History.{History}
 use Rattle.fnc_journal.specs.Found.{is_reply}
 use Rattle.fnc_core.specs.declared.change.Ask.{Ask}
 use Rattle.fnc_core.specs.declared.change.Started.{Started}
-use Rattle.fnc_core.specs.Between.{entry}
+use Rattle.fnc_core.specs.Between.{entry, start_of}
 use Rattle.fnc_core.specs.Cored.{Cored, Advances, Enters, Asks, Starts, ask_event}
 
 -- what a call does: the moment advances alone, an input or a request enters, a try starts, or nothing changes
@@ -47,7 +47,7 @@ abbrev pub entered_by : (old new : Cored) → IsCall old new → History
 entered_by old new (Advanced m later advances) = []
 entered_by old new (Entered m event later unreply enters) = entry m event ∷ []
 entered_by old new (Asked m a p req later asks) = entry m (ask_event req asks.lead a p) ∷ []
-entered_by old new (Began s starts) = entry old.last (Event.Start (record { run = s.run; req = s.req; slot = s.slot; reg = s.reg; kind = s.kind; attempt = s.attempt })) ∷ []
+entered_by old new (Began s starts) = entry old.last (Event.Start (start_of s)) ∷ []
 entered_by old new (Stayed same) = []
 
 -- the entries of all calls, the newest first

@@ -15,7 +15,7 @@ use Rattle.fnc_journal.specs.Found.{devices, asks, starts}
 use Rattle.fnc_journal.specs.Slots.{Operation}
 use Rattle.fnc_journal.specs.Startable.{alive_runs, Startable, first}
 use Rattle.fnc_journal.specs.Acts.{acts, runs, limit}
-use Rattle.fnc_core.specs.Between.{need_of, limit_from}
+use Rattle.fnc_core.specs.Between.{need_of, limit_from, request_of, start_of}
 use Rattle.fnc_core.specs.declared.change.Ask.{Ask}
 use Rattle.fnc_core.specs.declared.change.Change.{Change}
 use Rattle.fnc_core.specs.declared.change.Started.{Started}
@@ -67,7 +67,7 @@ next_of v = record { 0 = asks v.history }
 
 -- the entry of a request
 abbrev pub ask_event : Req → Req → Ask → Plan → Event
-ask_event req lead a p = Event.Ask (record { req = req; lead = lead; client = a.client; kind = a.kind; target = a.target; total = a.total; coin = a.coin; scope = p.scope })
+ask_event req lead a p = Event.Ask (request_of req lead a p.scope)
 
 -- a request enters, with the lead that it has after the advance
 pub record Asks (old new : Cored) (m : ℕ) (a : Ask) (p : Plan) (req : Req) : Type 0 where
@@ -105,10 +105,10 @@ pub record Follows (old new : Cored) (event : Event) : Type 0 where
 abbrev pub event_of : History → Change → Event
 event_of h (Change.Device registration) = Event.Device (record { reg = record { 0 = devices h }; registration = registration })
 event_of h (Change.Gone reg) = Event.Gone reg
-event_of h (Change.Level target index names) = Event.Level (record { target = target; index = index; devices = names })
-event_of h (Change.LevelGone target index) = Event.LevelGone (record { target = target; index = index })
-event_of h (Change.Agent name description) = Event.Agent (record { name = name; description = description })
-event_of h (Change.Confirm client target) = Event.Confirm (record { client = client; target = target })
+event_of h (Change.Level set) = Event.Level set
+event_of h (Change.LevelGone cleared) = Event.LevelGone cleared
+event_of h (Change.Agent described) = Event.Agent described
+event_of h (Change.Confirm word) = Event.Confirm word
 
 -- the entries that a request wants: its own and its reply, and where it begins an operation a start and an exit for each try
 abbrev pub wanted_by : Cored → ℕ → Ask → Plan → Option Operation → ℕ
@@ -147,7 +147,7 @@ IsStart v s = IsFirstStart v.history v.last s
 -- the first try that may start was started
 pub record Starts (old new : Cored) (s : Started) : Type 0 where
   pub is : IsStart old s
-  pub history : new.history ≡ record { moment = old.last; event = Event.Start (record { run = s.run; req = s.req; slot = s.slot; reg = s.reg; kind = s.kind; attempt = s.attempt }) } ∷ old.history
+  pub history : new.history ≡ record { moment = old.last; event = Event.Start (start_of s) } ∷ old.history
   pub fits : length new.history ≤ new.limit
   pub last : new.last ≡ old.last
   pub limit : new.limit ≡ old.limit

@@ -1,7 +1,6 @@
 -- When the total time of an operation is over, and which limit a slot has that is started now.
 use Rattle.std.specs.Prelude.{ℕ, ◌+◌, min, Option, Some, None, option_map, unwrap_or}
 use Rattle.fnc_journal.specs.declared.definition.Registration.{Registration}
-use Rattle.fnc_journal.specs.declared.entry.Entry.{Entry}
 use Rattle.fnc_journal.specs.declared.event.Event.{Event}
 use Rattle.fnc_journal.specs.declared.entry.Kind.{Kind}
 use Rattle.fnc_journal.specs.History.{History}
@@ -13,10 +12,6 @@ use Rattle.fnc_ops.specs.SlotRecords.{capped}
 abbrev pub over_by : ℕ → Event → ℕ
 over_by m (Event.Ask ask) = capped 64 (m + ask.total)
 over_by m _ = m
-
--- as its entry says, 0 where there is none
-abbrev pub over_in : Option Entry → ℕ
-over_in e = unwrap_or (option_map (λ (e : Entry). over_by e.moment e.event) e) 0
 
 -- how long an action of a registration may take, 0 where there is no such registration
 abbrev pub time_of : ℕ → Kind → History → ℕ

@@ -1,6 +1,12 @@
 // What a core is told, and what it tells of a start.
 
-use fnc_journal::{Description, Kind, LevelTarget, Names, Reg, Registration, Req, Run, Slot, Text};
+ghost use Rattle.std.specs.Prelude.{◌≡◌};
+ghost use Rattle.fnc_core.specs.Between.{request_of, start_of};
+
+use fnc_journal::{
+    Boxed, Confirmation, Described, Kind, LevelCleared, LevelSet, Reg, Registration, Req, Request,
+    Run, Scope, Slot, Start, Text,
+};
 
 /// What a client asks for: an action on a target within a total time, in milliseconds, with the coin that draws
 /// the delays.
@@ -17,25 +23,30 @@ pub struct Ask {
 /// away, an agent is described, or an operator says that a target is down.
 #[derive(Debug, Drop)]
 pub enum Change {
-    Device(Registration),
+    Device(Boxed<Registration>),
     Gone(Reg),
-    Level {
-        target: LevelTarget,
-        index: u8,
-        devices: Names,
-    },
-    LevelGone {
-        target: LevelTarget,
-        index: u8,
-    },
-    Agent {
-        name: Text,
-        description: Description,
-    },
-    Confirm {
-        client: Text,
-        target: Text,
-    },
+    Level(LevelSet),
+    LevelGone(LevelCleared),
+    Agent(Described),
+    Confirm(Confirmation),
+}
+
+impl Ask {
+    /// The request of a number, with its lead and its scope.
+    pub(crate) fn into_request(self, req: Req, lead: Req, scope: Scope) -> Request
+        ensures { result ≡ request_of req lead self scope }
+    {
+        Request {
+            req,
+            lead,
+            client: self.client,
+            kind: self.kind,
+            target: self.target,
+            total: self.total,
+            coin: self.coin,
+            scope,
+        }
+    }
 }
 
 /// A start that was made or may be made: the run, its operation and slot, the device's registration, the action,
@@ -49,4 +60,20 @@ pub struct Started {
     pub kind: Kind,
     pub attempt: u8,
     pub limit: u64,
+}
+
+impl Started {
+    /// The start as it is entered.
+    pub fn start(&self) -> Start
+        ensures { result ≡ start_of self.now }
+    {
+        Start {
+            run: self.run,
+            req: self.req,
+            slot: self.slot,
+            reg: self.reg,
+            kind: self.kind,
+            attempt: self.attempt,
+        }
+    }
 }

@@ -5,14 +5,14 @@ ghost use Rattle.fnc_journal.specs.declared.event.Event.{Event};
 ghost use Rattle.fnc_journal.specs.Found.{is_device};
 ghost use Rattle.fnc_journal.specs.Lawful.{in_order, may_ask};
 ghost use Rattle.fnc_journal.specs.Operations.{joined};
-ghost use Rattle.fnc_core.specs.Between.{IsBoundedEvent, IsPlanOf, is_quiet, need_of};
+ghost use Rattle.fnc_core.specs.Between.{IsBoundedEvent, IsPlanOf, is_quiet, need_of, request_of};
 ghost use Rattle.fnc_journal.specs.Levels.{is_in_place};
 ghost use Rattle.fnc_core.specs.Cored.{Follows, HasRoom, IsRefusal, IsAskRefusal, ask_event, lead_in, next_of, event_of};
 
 use crate::change::{Ask, Change};
 use crate::machine::Core;
 use crate::refusal::AskRefusal;
-use fnc_journal::{Described, Event, LevelCleared, LevelSet, Plan, Reg, Registered, Req, Scope};
+use fnc_journal::{Event, Plan, Reg, Registered, Req, Scope};
 use fnc_ops::allowed_tries;
 use std::alloc::Global;
 
@@ -43,35 +43,27 @@ impl Core {
                 self.next_reg += 1;
             }
             Change::Gone(reg) => self.enter(Event::Gone { reg }),
-            Change::Level {
-                target,
-                index,
-                devices,
-            } => self.enter(Event::Level(LevelSet {
-                target,
-                index,
-                devices,
-            })),
-            Change::LevelGone { target, index } => self.enter(Event::LevelGone(LevelCleared { target, index })),
-            Change::Agent { name, description } => self.enter(Event::Agent(Described { name, description })),
-            Change::Confirm { client, target } => {
-                self.parts.confirm(self.last, client, target);
+            Change::Level(set) => self.enter(Event::Level(set)),
+            Change::LevelGone(cleared) => self.enter(Event::LevelGone(cleared)),
+            Change::Agent(described) => self.enter(Event::Agent(described)),
+            Change::Confirm(word) => {
+                self.parts.confirm(self.last, word);
                 self.parts.give_replies(self.last);
             }
         }
     }
 
     /// A request joins an operation that is open, with the replies that it makes due.
-    fn join(&mut self, lead: Req, ask: Ask, scope: Scope) -> Result<(), AskRefusal>
-        requires ordered { in_order (Event.Ask (record { req = next_of self.old; lead = lead; client = ask.client; kind = ask.kind; target = ask.target; total = ask.total; coin = ask.coin; scope = scope })) self.old.history ≡ true }
+    fn join(&mut self, alloc: Global, lead: Req, ask: Ask, scope: Scope) -> Result<(), AskRefusal>
+        requires ordered { in_order (Event.Ask (request_of (next_of self.old) lead ask scope)) self.old.history ≡ true }
         requires leads { option_map (λ o. o.req) (joined self.old.history self.old.last ask.kind ask.target) ≡ Some lead.0 }
-        ensures ok { OnOk result (Follows self.old self.new (Event.Ask (record { req = next_of self.old; lead = lead; client = ask.client; kind = ask.kind; target = ask.target; total = ask.total; coin = ask.coin; scope = scope }))) }
+        ensures ok { OnOk result (Follows self.old self.new (Event.Ask (request_of (next_of self.old) lead ask scope))) }
         ensures refusal { IfErr result (IsRefusal self.new 2) }
         ensures err { OnErr result (self.new ≡ self.old) }
     {
         self.room(2)?;
         self.parts
-            .join(self.last, lead, Req(self.next_req), ask, scope)?;
+            .join(alloc, self.last, lead, Req(self.next_req), ask, scope)?;
         self.next_req += 1;
         self.parts.give_replies(self.last);
         Ok(())
@@ -115,7 +107,7 @@ impl Core {
         ensures err { OnErr result (self.new ≡ self.old) }
     {
         match self.joinable(ask.target.as_str(), ask.kind) {
-            Some(lead) => self.join(lead, ask, plan.scope),
+            Some(lead) => self.join(alloc, lead, ask, plan.scope),
             None => self.begin(alloc, ask, plan),
         }
     }

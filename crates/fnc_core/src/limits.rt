@@ -1,14 +1,13 @@
 // The limit of a slot, at which an exit no longer counts.
 
-ghost use Rattle.std.specs.Prelude.{◌≡◌, ◌≤◌, ◌^◌, Some, find};
-ghost use Rattle.fnc_journal.specs.Found as Found;
+ghost use Rattle.std.specs.Prelude.{◌≡◌, ◌≤◌, ◌^◌, Some};
 ghost use Rattle.fnc_journal.specs.Slots.{Operation};
 ghost use Rattle.fnc_journal.specs.Operations as Operations;
 ghost use Rattle.fnc_journal.specs.Lawful.{Lawful};
 ghost use Rattle.fnc_ops.specs.Stands.{AreBounded};
 ghost use Rattle.fnc_core.specs.Limits as Limits;
 
-use fnc_journal::{Entry, Event, Journal, Kind, Reg, Req, Request};
+use fnc_journal::{Entry, Event, Journal, Kind, Reg, Req};
 use fnc_ops::Standing;
 
 /// When the total time of a request is over, by its entry.
@@ -16,18 +15,8 @@ fn over_by(entry: &Entry) -> u64
     ensures { result ≡ Limits.over_by entry.now.moment entry.now.event }
 {
     match &entry.event {
-        Event::Ask(Request { total, .. }) => entry.moment.saturating_add(*total),
+        Event::Ask(request) => entry.moment.saturating_add(request.get().total),
         _ => entry.moment,
-    }
-}
-
-/// The same of the newest request of a number, 0 where there is none.
-fn latest_over(journal: &Journal, req: Req) -> u64
-    ensures { result ≡ Limits.over_in (find (λ e. Found.is_ask_of req.0 e.event) journal.now.history) }
-{
-    match journal.latest_ask(req) {
-        Some(entry) => over_by(entry),
-        None => 0,
     }
 }
 
@@ -36,7 +25,10 @@ fn over_of(journal: &Journal, req: Req) -> u64
     requires { Lawful journal.now.history }
     ensures { (o : Operation) → Operations.operation req.0 journal.now.history ≡ Some o → result ≡ o.over }
 {
-    latest_over(journal, req)
+    match journal.asked(req) {
+        Some(entry) => over_by(entry),
+        None => 0,
+    }
 }
 
 /// How long an action of a registration may take.

@@ -13,7 +13,9 @@ ghost use Rattle.fnc_core.specs.Cored.{Sound, Advances, Enters, Asks, Starts, Ha
 use crate::change::{Ask, Change, Started};
 use crate::parts::Parts;
 use crate::refusal::{AskRefusal, UnknownRun};
-use fnc_journal::{Cause, Event, Exit, Full, Journal, Kind, NoMemory, Plan, Refusal, Req, Run};
+use fnc_journal::{
+    Cause, Ended, Event, Exit, Full, Journal, Kind, NoMemory, Plan, Refusal, Req, Run,
+};
 use fnc_ops::Ops;
 use fnc_queue::Queue;
 use std::alloc::Global;
@@ -228,7 +230,7 @@ impl Core {
         if !self.parts.is_alive(run) {
             return Err(UnknownRun);
         }
-        self.parts.end_run(moment, run, exit, listed);
+        self.parts.end_run(moment, Ended { run, exit, listed });
         self.parts.give_replies(moment);
         Ok(())
     }

@@ -8,7 +8,7 @@ ghost use Rattle.fnc_core.specs.Between.{Rests, StartsNext, IsNextStart};
 use crate::change::Started;
 use crate::limits::limit_of;
 use crate::parts::Parts;
-use fnc_journal::{Entry, Event, Run, Start};
+use fnc_journal::{Entry, Event, Run};
 
 impl Parts {
     /// The start that may be made first at a moment, with the number that its run would have. None exactly where
@@ -44,17 +44,11 @@ impl Parts {
     {
         let started = self.first_start(moment, run)?;
         self.queue.take_first(moment);
-        self.ops.started(&self.journal, started.req, run, moment);
+        let start = started.start();
+        self.ops.started(&self.journal, &start, moment);
         self.journal.push(Entry {
             moment,
-            event: Event::Start(Start {
-                run,
-                req: started.req,
-                slot: started.slot,
-                reg: started.reg,
-                kind: started.kind,
-                attempt: started.attempt,
-            }),
+            event: Event::Start(start),
         });
         Some(started)
     }

@@ -13,7 +13,7 @@ ghost use Rattle.fnc_desk.specs.Searched as Searched;
 
 use crate::printing::{Piece, print_pieces};
 use crate::tally::{alive, counted};
-use fnc_journal::{Answer, Event, Journal, Refusal, Reg, Reply, Req, Request, Start};
+use fnc_journal::{Answer, Event, Journal, Reg, Req};
 use fnc_outside::{Sink, SinkFailed};
 
 /// The name of a registration, nothing where there is no such registration.
@@ -30,7 +30,7 @@ fn ask_target(event: &Event) -> &str
     ensures { result.now ≡ Searched.ask_target event.now }
 {
     match event {
-        Event::Ask(Request { target, .. }) => target.as_str(),
+        Event::Ask(request) => request.get().target.as_str(),
         _ => "",
     }
 }
@@ -68,35 +68,28 @@ fn print_event<K: Sink>(journal: &Journal, event: &Event, sink: &mut K) -> Resul
     ensures cause { OnErr result (Rose (K.faults sink.old) (K.faults sink.new)) }
 {
     match event {
-        Event::Start(Start {
-            run,
-            req,
-            reg,
-            kind,
-            attempt,
-            ..
-        }) => print_pieces(
+        Event::Start(start) => print_pieces(
             &[
                 Piece::Word("start "),
-                Piece::Number(run.0),
+                Piece::Number(start.run.0),
                 Piece::Word(" "),
-                Piece::Name(name_of(journal, *reg)),
+                Piece::Name(name_of(journal, start.reg)),
                 Piece::Word(" "),
-                Piece::Word(kind.word()),
+                Piece::Word(start.kind.word()),
                 Piece::Word(" "),
-                Piece::Name(target_of(journal, *req)),
+                Piece::Name(target_of(journal, start.req)),
                 Piece::Word(" try "),
-                Piece::Number(u32::from(*attempt)),
+                Piece::Number(u32::from(start.attempt)),
                 Piece::Word("\n"),
             ],
             sink,
         ),
-        Event::Reply(Reply { req, answer }) => {
-            let (first, second) = answer_words(*answer);
+        Event::Reply(reply) => {
+            let (first, second) = answer_words(reply.answer);
             print_pieces(
                 &[
                     Piece::Word("answer "),
-                    Piece::Number(req.0),
+                    Piece::Number(reply.req.0),
                     Piece::Word(" "),
                     first,
                     second,
@@ -105,12 +98,12 @@ fn print_event<K: Sink>(journal: &Journal, event: &Event, sink: &mut K) -> Resul
                 sink,
             )
         }
-        Event::Refused(Refusal { line, cause }) => print_pieces(
+        Event::Refused(refusal) => print_pieces(
             &[
                 Piece::Word("refused "),
-                Piece::Number(*line),
+                Piece::Number(refusal.line),
                 Piece::Word(" "),
-                Piece::Word(cause.word()),
+                Piece::Word(refusal.cause.word()),
                 Piece::Word("\n"),
             ],
             sink,

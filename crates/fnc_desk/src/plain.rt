@@ -6,7 +6,7 @@ ghost use Rattle.fnc_desk.specs.Plain.{plain, default_allowed};
 ghost use Rattle.fnc_desk.specs.Inputs.{plain_registration};
 
 use fnc_journal::{
-    Actions, Allowed, Base, Candidate, Definition, HostCheck, NoMemory, Plan, Reg, Registration,
+    Actions, Allowed, Base, Boxed, Candidate, Definition, HostCheck, NoMemory, Plan, Reg, Registration,
     Scope, Sequence, Text,
 };
 use std::alloc::Global;
@@ -57,14 +57,15 @@ fn definition(alloc: Global) -> Result<Definition, NoMemory>
 }
 
 /// The registration of a device of this name without options: its agent is `fence_model`.
-pub(crate) fn registration(alloc: Global, name: &str) -> Result<Registration, NoMemory>
+pub(crate) fn registration(alloc: Global, name: &str) -> Result<Boxed<Registration>, NoMemory>
     ensures { IfOk result (λ r. r ≡ plain_registration name.now) }
 {
-    Ok(Registration {
+    let registration = Registration {
         name: Text::new(alloc, name)?,
         agent: Text::new(alloc, "fence_model")?,
         definition: definition(alloc)?,
-    })
+    };
+    Boxed::new(alloc, registration)
 }
 
 /// The plan of a request that the only device serves: it is tried without a query.

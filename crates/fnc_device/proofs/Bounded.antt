@@ -3,6 +3,7 @@ use Rattle.std.proofs.Common.{◌≡◌, ℕ, true, List, length, Result, Ok, Er
 use Rattle.std.specs.Prelude.{IfOk, nat_le, codes}
 use Rattle.std.specs.List.{list_all}
 use Rattle.std.proofs.lemmas.Bool.{and_parts, le-leb, leb-true}
+use Rattle.fnc_journal.specs.declared.limits.TheConstants.{LONGEST_VALUE, MOST_HOSTS}
 use Rattle.fnc_journal.specs.declared.definition.Actions.{Actions}
 use Rattle.fnc_journal.specs.declared.definition.Allowed.{Allowed}
 use Rattle.fnc_journal.specs.declared.definition.Base.{Base}
@@ -32,11 +33,11 @@ use Rattle.fnc_device.proofs.OptionBounds.{options_are, value_is, own_are, own_f
 use Rattle.fnc_device.proofs.NumberBounds.{time_is, limit_is, priority_is, base_is, allowed_is}
 
 pub record AreHosts (names : List (List ℕ)) : Type 0 where
-  pub few : nat_le (length names) 256 ≡ true
+  pub few : nat_le (length names) MOST_HOSTS ≡ true
   pub each : list_all is_host names ≡ true
 
 pub record ArePairs (pairs : List Pair) : Type 0 where
-  pub few : nat_le (length pairs) 256 ≡ true
+  pub few : nat_le (length pairs) MOST_HOSTS ≡ true
   pub each : list_all is_host_pair pairs ≡ true
 
 pub record IsSchedule (s : Schedule) : Type 0 where
@@ -55,16 +56,16 @@ pub record AreAllowances (a : Allowances) : Type 0 where
 hosts_of_is : (value : Option (List ℕ)) (names : List (List ℕ)) → ((text : List ℕ) → value ≡ Some text → is_option_value text ≡ true) → hosts_of value ≡ Ok names → AreHosts names
 hosts_of_is None names well h = subst AreHosts (same_Ok [] names h) (record { few = refl; each = refl })
 hosts_of_is (Some text) names well h =
-    let parts = and_parts (nat_le (length text) 4096) (list_all is_value_byte text) (well text refl) in
+    let parts = and_parts (nat_le (length text) LONGEST_VALUE) (list_all is_value_byte text) (well text refl) in
     let all = hosts_are text names (leb-true _ _ parts.0) parts.1 (or_fault_is DefineFault.BadHostList (host_list text) names h) in
-    record { few = le-leb (length names) 256 all.0; each = all.1 }
+    record { few = le-leb (length names) MOST_HOSTS all.0; each = all.1 }
 
 map_of_is : (value : Option (List ℕ)) (pairs : List Pair) → ((text : List ℕ) → value ≡ Some text → is_option_value text ≡ true) → map_of value ≡ Ok pairs → ArePairs pairs
 map_of_is None pairs well h = subst ArePairs (same_Ok [] pairs h) (record { few = refl; each = refl })
 map_of_is (Some text) pairs well h =
-    let parts = and_parts (nat_le (length text) 4096) (list_all is_value_byte text) (well text refl) in
+    let parts = and_parts (nat_le (length text) LONGEST_VALUE) (list_all is_value_byte text) (well text refl) in
     let all = pairs_are text pairs (leb-true _ _ parts.0) parts.1 (or_fault_is DefineFault.BadHostMap (host_map text) pairs h) in
-    record { few = le-leb (length pairs) 256 all.0; each = all.1 }
+    record { few = le-leb (length pairs) MOST_HOSTS all.0; each = all.1 }
 
 module _ (options : List Pair) where
   abbrev said : List ℕ → Option (List ℕ)

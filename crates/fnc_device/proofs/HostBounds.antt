@@ -7,6 +7,7 @@ use Rattle.std.proofs.lemmas.Bool.Decides.{nat_tests}
 use Rattle.std.proofs.lemmas.List.{length-drop, length-take-le}
 use Rattle.std.proofs.lemmas.List.Elements.{All-take, All-drop}
 use Rattle.std.proofs.lemmas.List.Sums.{AllPass-from_list_all, list_all-from_AllPass, prefix_len-le-length}
+use Rattle.fnc_journal.specs.declared.limits.TheConstants.{LONGEST_NAME, LONGEST_VALUE, MOST_HOSTS}
 use Rattle.fnc_journal.specs.declared.names.Pair.{Pair}
 use Rattle.fnc_text.proofs.DigitLemmas.{list_all-take_while}
 use Rattle.fnc_hosts.specs.declared.hosts.HostFault.{HostFault}
@@ -21,23 +22,23 @@ pub is_text-from : (most : ℕ) (p : ℕ → Bool) (text : List ℕ) → 0 < len
 is_text-from most p text some short bytes = and_from _ _ (and_from _ _ (lt-ltb 0 (length text) some) (le-leb (length text) most short)) bytes
 
 -- entries are read one by one, at most 256 of them
-few_entries : {X : Type 0} (read : Entry → Result X HostFault) (es : List Entry) (xs : List X) → each_entry read es ≡ Ok xs → (length es ≤ 256) × (together (map read es) ≡ Ok xs)
+few_entries : {X : Type 0} (read : Entry → Result X HostFault) (es : List Entry) (xs : List X) → each_entry read es ≡ Ok xs → (length es ≤ MOST_HOSTS) × (together (map read es) ≡ Ok xs)
 few_entries read es xs h =
-    let found = guard_ok (nat_lt 256 (length es)) HostFault.TooMany (together (map read es)) xs h in (ltb-false _ _ found.0, found.1)
+    let found = guard_ok (nat_lt MOST_HOSTS (length es)) HostFault.TooMany (together (map read es)) xs h in (ltb-false _ _ found.0, found.1)
 
-host_is : (e : Entry) (x : List ℕ) → IsEntry separates_list is_value_byte 4096 e → host e ≡ Ok x → is_host x ≡ true
+host_is : (e : Entry) (x : List ℕ) → IsEntry separates_list is_value_byte LONGEST_VALUE e → host e ≡ Ok x → is_host x ≡ true
 host_is e x entry h =
-    let found = guard_ok (nat_lt 255 (length e.text)) (HostFault.LongName e.place) (Ok e.text) x h in
+    let found = guard_ok (nat_lt LONGEST_NAME (length e.text)) (HostFault.LongName e.place) (Ok e.text) x h in
     let same = same_Ok e.text x found.1 in
-    subst (λ name. is_host name ≡ true) same (is_text-from 255 is_host_byte e.text entry.some (ltb-false _ _ found.0) entry.part.bytes)
+    subst (λ name. is_host name ≡ true) same (is_text-from LONGEST_NAME is_host_byte e.text entry.some (ltb-false _ _ found.0) entry.part.bytes)
 
 -- the names of a host list
-pub hosts_are : (text : List ℕ) (names : List (List ℕ)) → length text ≤ 4096 → list_all is_value_byte text ≡ true → host_list text ≡ Ok names → (length names ≤ 256) × (list_all is_host names ≡ true)
+pub hosts_are : (text : List ℕ) (names : List (List ℕ)) → length text ≤ LONGEST_VALUE → list_all is_value_byte text ≡ true → host_list text ≡ Ok names → (length names ≤ MOST_HOSTS) × (list_all is_host names ≡ true)
 hosts_are text names short bytes h =
     let es = entries separates_list text in
     let few = few_entries host es names h in
-    let all = entries_are separates_list is_value_byte 4096 text short bytes in
-    let read = together_are (IsEntry separates_list is_value_byte 4096) (λ name. is_host name ≡ true) host host_is es names all few.1 in
+    let all = entries_are separates_list is_value_byte LONGEST_VALUE text short bytes in
+    let read = together_are (IsEntry separates_list is_value_byte LONGEST_VALUE) (λ name. is_host name ≡ true) host host_is es names all few.1 in
     (omega (arith, read.1, few.0), list_all-each is_host names read.0)
 
 list_all-take : (p : ℕ → Bool) (n : ℕ) (bs : List ℕ) → list_all p bs ≡ true → list_all p (take n bs) ≡ true
@@ -60,14 +61,14 @@ below : (n m : ℕ) → n ≤ m → eqb n m ≡ false → n < m
 below n m h e = grind (arith, nat_tests)
 
 -- a name and a port that were cut at a colon
-named_is : (place : ℕ) (name port : List ℕ) (p : Pair) → named place name port ≡ Ok p → (0 < length name) × (0 < length port) × (length name ≤ 255) × (record { name = name; value = port } ≡ p)
+named_is : (place : ℕ) (name port : List ℕ) (p : Pair) → named place name port ≡ Ok p → (0 < length name) × (0 < length port) × (length name ≤ LONGEST_NAME) × (record { name = name; value = port } ≡ p)
 named_is place name port p h =
     let some_name = guard_ok (eqb (length name) 0) (HostFault.EmptyName place) _ p h in
     let some_port = guard_ok (eqb (length port) 0) (HostFault.EmptyPort place) _ p some_name.1 in
-    let short = guard_ok (nat_lt 255 (length name)) (HostFault.LongName place) _ p some_port.1 in
+    let short = guard_ok (nat_lt LONGEST_NAME (length name)) (HostFault.LongName place) _ p some_port.1 in
     (above _ some_name.0, above _ some_port.0, ltb-false _ _ short.0, same_Ok _ p short.1)
 
-pair_is : (e : Entry) (p : Pair) → IsEntry separates_map is_value_byte 4096 e → host_pair e ≡ Ok p → is_host_pair p ≡ true
+pair_is : (e : Entry) (p : Pair) → IsEntry separates_map is_value_byte LONGEST_VALUE e → host_pair e ≡ Ok p → is_host_pair p ≡ true
 pair_is e p entry h =
     let n = position_or_len is_colon e.text in
     let name = before_first is_colon e.text in
@@ -82,17 +83,17 @@ pair_is e p entry h =
     let name_bytes = list_all-both is_entry_byte (λ b. not (is_colon b)) name (list_all-take is_entry_byte n e.text entry.part.bytes) (list_all-take_while (λ b. not (is_colon b)) e.text) in
     let port_bytes = list_all-drop is_entry_byte (n + 1) e.text entry.part.bytes in
     subst (λ q. is_host_pair q ≡ true) parts.3
-    (and_from _ _ (is_text-from 255 is_node_byte name parts.0 parts.2 name_bytes) (is_text-from 4094 is_entry_byte port parts.1 (omega arith) port_bytes))
+    (and_from _ _ (is_text-from LONGEST_NAME is_node_byte name parts.0 parts.2 name_bytes) (is_text-from (LONGEST_VALUE - 2) is_entry_byte port parts.1 (omega arith) port_bytes))
 
 -- a colon is no separator
 colon_in_entry : (b : ℕ) → is_colon b ≡ true → separates_map b ≡ false
 colon_in_entry b h = grind (arith, nat_tests)
 
 -- the names and ports of a host map: with a colon there is one
-pub pairs_are : (text : List ℕ) (pairs : List Pair) → length text ≤ 4096 → list_all is_value_byte text ≡ true → host_map text ≡ Ok pairs → (length pairs ≤ 256) × (list_all is_host_pair pairs ≡ true) × (list_any is_colon text ≡ true → 0 < length pairs)
+pub pairs_are : (text : List ℕ) (pairs : List Pair) → length text ≤ LONGEST_VALUE → list_all is_value_byte text ≡ true → host_map text ≡ Ok pairs → (length pairs ≤ MOST_HOSTS) × (list_all is_host_pair pairs ≡ true) × (list_any is_colon text ≡ true → 0 < length pairs)
 pairs_are text pairs short bytes h =
     let es = entries separates_map text in
     let few = few_entries host_pair es pairs h in
-    let all = entries_are separates_map is_value_byte 4096 text short bytes in
-    let read = together_are (IsEntry separates_map is_value_byte 4096) (λ p. is_host_pair p ≡ true) host_pair pair_is es pairs all few.1 in
+    let all = entries_are separates_map is_value_byte LONGEST_VALUE text short bytes in
+    let read = together_are (IsEntry separates_map is_value_byte LONGEST_VALUE) (λ p. is_host_pair p ≡ true) host_pair pair_is es pairs all few.1 in
     (omega (arith, read.1, few.0), list_all-each is_host_pair pairs read.0, λ colon. let some = entries-some separates_map is_colon colon_in_entry text colon in omega (arith, read.1))

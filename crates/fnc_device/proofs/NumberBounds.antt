@@ -5,6 +5,7 @@ use Rattle.std.specs.List.{list_all, list_any}
 use Rattle.std.specs.Char.{is_ascii_digit}
 use Rattle.std.proofs.lemmas.Bool.{and_parts, and_from, leb-true, le-leb, lt-ltb}
 use Rattle.std.proofs.lemmas.Bool.Decides.{nat_tests}
+use Rattle.fnc_journal.specs.declared.limits.TheConstants.{DAY, DEFAULT_TIME, DEFAULT_TRIES, GREATEST_PRIORITY, LONGEST_VALUE, MOST_HOSTS, MOST_RUNS, MOST_TRIES}
 use Rattle.fnc_journal.specs.declared.definition.Allowed.{Allowed}
 use Rattle.fnc_journal.specs.declared.definition.Base.{Base}
 use Rattle.fnc_journal.specs.declared.definition.Delay.{Delay}
@@ -31,7 +32,7 @@ use Rattle.fnc_device.proofs.OptionBounds.{value_is}
 within : (n : ℕ) (unit : Option ℕ) (ms : ℕ) → counted n unit ≡ Ok ms → is_time ms ≡ true
 within n None ms h = absurd cc
 within n (Some one) ms h =
-    let found = test_ok (nat_le (n * one) 86400000) DurationFault.TooLarge (Ok (n * one)) ms h in
+    let found = test_ok (nat_le (n * one) DAY) DurationFault.TooLarge (Ok (n * one)) ms h in
     subst (λ t. is_time t ≡ true) (same_Ok (n * one) ms found.1) found.0
 
 pub duration_is : (text : List ℕ) (ms : ℕ) → duration text ≡ Ok ms → is_time ms ≡ true
@@ -53,34 +54,34 @@ pub number_is : (most n : ℕ) (text : List ℕ) → number most text ≡ Some n
 number_is most n text h = grind (arith, nat_tests)
 
 -- a limit of runs
-counted_is : (most : ℕ) (read : Option ℕ) (cap : Option ℕ) → ((n : ℕ) → read ≡ Some n → n ≤ 64) → counted_limit read ≡ Ok cap → is_cap cap ≡ true
+counted_is : (most : ℕ) (read : Option ℕ) (cap : Option ℕ) → ((n : ℕ) → read ≡ Some n → n ≤ MOST_RUNS) → counted_limit read ≡ Ok cap → is_cap cap ≡ true
 counted_is most None cap small h = absurd cc
 counted_is most (Some n) cap small h =
     let found = guard_ok (eqb n 0) DefineFault.BadLimit (Ok (Some n)) cap h in
     let few = small n refl in
     let some : 0 < n = grind (arith, nat_tests) in
-    subst (λ c. is_cap c ≡ true) (same_Ok (Some n) cap found.1) (and_from _ _ (lt-ltb 0 n some) (le-leb n 64 few))
+    subst (λ c. is_cap c ≡ true) (same_Ok (Some n) cap found.1) (and_from _ _ (lt-ltb 0 n some) (le-leb n MOST_RUNS few))
 
-limit_text : (text : List ℕ) (none : Bool) (cap : Option ℕ) → cond none (Ok None) (counted_limit (number 64 text)) ≡ Ok cap → is_cap cap ≡ true
+limit_text : (text : List ℕ) (none : Bool) (cap : Option ℕ) → cond none (Ok None) (counted_limit (number MOST_RUNS text)) ≡ Ok cap → is_cap cap ≡ true
 limit_text text true cap h = subst (λ c. is_cap c ≡ true) (same_Ok None cap h) refl
-limit_text text false cap h = counted_is 64 (number 64 text) cap (λ n e. number_is 64 n text e) h
+limit_text text false cap h = counted_is MOST_RUNS (number MOST_RUNS text) cap (λ n e. number_is MOST_RUNS n text e) h
 
 pub limit_is : (value : Option (List ℕ)) (cap : Option ℕ) → limit_of value ≡ Ok cap → is_cap cap ≡ true
 limit_is None cap h = subst (λ c. is_cap c ≡ true) (same_Ok (Some 1) cap h) refl
 limit_is (Some text) cap h = limit_text text (bytes_eq text (codes "-1")) cap h
 
 -- a priority
-negated : (n : ℕ) → n ≤ 1000000 → is_priority (neg_ℤ (pos n)) ≡ true
+negated : (n : ℕ) → n ≤ GREATEST_PRIORITY → is_priority (neg_ℤ (pos n)) ≡ true
 negated zero h = refl
-negated (suc n) h = lt-ltb n 1000000 (omega arith)
+negated (suc n) h = lt-ltb n GREATEST_PRIORITY (omega arith)
 
 signed_is : (sign : ℕ → ℤ) (read : Option ℕ) (z : ℤ) → ((n : ℕ) → read ≡ Some n → is_priority (sign n) ≡ true) → signed sign read ≡ Ok z → is_priority z ≡ true
 signed_is sign None z small h = absurd cc
 signed_is sign (Some n) z small h = subst (λ t. is_priority t ≡ true) (same_Ok (sign n) z h) (small n refl)
 
-priority_text : (minus : Bool) (b : ℕ) (bs : List ℕ) (z : ℤ) → cond minus (signed (λ n. neg_ℤ (pos n)) (number 1000000 bs)) (signed pos (number 1000000 (b ∷ bs))) ≡ Ok z → is_priority z ≡ true
-priority_text true b bs z h = signed_is (λ n. neg_ℤ (pos n)) (number 1000000 bs) z (λ n e. negated n (number_is 1000000 n bs e)) h
-priority_text false b bs z h = signed_is pos (number 1000000 (b ∷ bs)) z (λ n e. le-leb n 1000000 (number_is 1000000 n (b ∷ bs) e)) h
+priority_text : (minus : Bool) (b : ℕ) (bs : List ℕ) (z : ℤ) → cond minus (signed (λ n. neg_ℤ (pos n)) (number GREATEST_PRIORITY bs)) (signed pos (number GREATEST_PRIORITY (b ∷ bs))) ≡ Ok z → is_priority z ≡ true
+priority_text true b bs z h = signed_is (λ n. neg_ℤ (pos n)) (number GREATEST_PRIORITY bs) z (λ n e. negated n (number_is GREATEST_PRIORITY n bs e)) h
+priority_text false b bs z h = signed_is pos (number GREATEST_PRIORITY (b ∷ bs)) z (λ n e. le-leb n GREATEST_PRIORITY (number_is GREATEST_PRIORITY n (b ∷ bs) e)) h
 
 pub priority_is : (value : Option (List ℕ)) (z : ℤ) → priority_of value ≡ Ok z → is_priority z ≡ true
 priority_is None z h = subst (λ t. is_priority t ≡ true) (same_Ok (pos 0) z h) refl
@@ -108,14 +109,14 @@ delays_are (p ∷ ps) ds nodes h =
 
 base_text : (colon : Bool) (text : List ℕ) (base : Base) → list_any is_colon text ≡ colon → is_option_value text ≡ true → cond colon (or_fault bad_base (host_map text) >>= λ pairs. delays pairs >>= λ ds. Ok (Base.ByNode ds)) (or_bad (codes "pcmk_delay_base") (duration text) >>= λ ms. Ok (Base.Fixed ms)) ≡ Ok base → is_base base ≡ true
 base_text true text base is value h =
-    let parts = and_parts (nat_le (length text) 4096) (list_all is_value_byte text) value in
+    let parts = and_parts (nat_le (length text) LONGEST_VALUE) (list_all is_value_byte text) value in
     let pairs = bind_ok (or_fault bad_base (host_map text)) (λ pairs. delays pairs >>= λ ds. Ok (Base.ByNode ds)) base h in
     let ds = bind_ok (delays pairs.0) (λ ds. Ok (Base.ByNode ds)) base pairs.2 in
     let nodes = pairs_are text pairs.0 (leb-true _ _ parts.0) parts.1 (or_fault_is bad_base (host_map text) pairs.0 pairs.1) in
     let all = delays_are pairs.0 ds.0 nodes.1 ds.1 in
     let some : 0 < length pairs.0 = nodes.2 is in
     subst (λ b. is_base b ≡ true) (same_Ok (Base.ByNode ds.0) base ds.2)
-    (and_from _ _ (and_from _ _ (lt-ltb 0 (length ds.0) (omega (arith, all.0, some))) (le-leb (length ds.0) 256 (omega (arith, all.0, nodes.0)))) all.1)
+    (and_from _ _ (and_from _ _ (lt-ltb 0 (length ds.0) (omega (arith, all.0, some))) (le-leb (length ds.0) MOST_HOSTS (omega (arith, all.0, nodes.0)))) all.1)
 base_text false text base is value h =
     let ms = bind_ok (or_bad (codes "pcmk_delay_base") (duration text)) (λ ms. Ok (Base.Fixed ms)) base h in
     subst (λ b. is_base b ≡ true) (same_Ok (Base.Fixed ms.0) base ms.2) (duration_is text ms.0 (or_bad_is _ (duration text) ms.0 ms.1))
@@ -134,19 +135,19 @@ some_time_is name (Ok t) ms h =
 some_time_is name (Err fault) ms h = absurd cc
 
 timeout_is : (name : List ℕ) (value : Option (List ℕ)) (ms : ℕ) → timeout_of name value ≡ Ok ms → (nat_lt 0 ms ≡ true) × (is_time ms ≡ true)
-timeout_is name None ms h = subst (λ n. (nat_lt 0 n ≡ true) × (is_time n ≡ true)) (same_Ok 60000 ms h) (refl, refl)
+timeout_is name None ms h = subst (λ n. (nat_lt 0 n ≡ true) × (is_time n ≡ true)) (same_Ok DEFAULT_TIME ms h) (refl, refl)
 timeout_is name (Some text) ms h =
     let found = some_time_is name (duration text) ms h in (found.1, duration_is text ms found.0)
 
-some_tries_is : (name : List ℕ) (read : Option ℕ) (tries : ℕ) → ((n : ℕ) → read ≡ Some n → n ≤ 16) → some_tries name read ≡ Ok tries → (nat_lt 0 tries ≡ true) × (nat_le tries 16 ≡ true)
+some_tries_is : (name : List ℕ) (read : Option ℕ) (tries : ℕ) → ((n : ℕ) → read ≡ Some n → n ≤ MOST_TRIES) → some_tries name read ≡ Ok tries → (nat_lt 0 tries ≡ true) × (nat_le tries MOST_TRIES ≡ true)
 some_tries_is name None tries small h = absurd cc
 some_tries_is name (Some n) tries small h =
     let few = small n refl in
-    subst (λ t. (nat_lt 0 t ≡ true) × (nat_le t 16 ≡ true)) (same_Ok (max n 1) tries h) (lt-ltb 0 (max n 1) (omega arith), le-leb (max n 1) 16 (omega arith))
+    subst (λ t. (nat_lt 0 t ≡ true) × (nat_le t MOST_TRIES ≡ true)) (same_Ok (max n 1) tries h) (lt-ltb 0 (max n 1) (omega arith), le-leb (max n 1) MOST_TRIES (omega arith))
 
-retries_is : (name : List ℕ) (value : Option (List ℕ)) (tries : ℕ) → retries_of name value ≡ Ok tries → (nat_lt 0 tries ≡ true) × (nat_le tries 16 ≡ true)
-retries_is name None tries h = subst (λ t. (nat_lt 0 t ≡ true) × (nat_le t 16 ≡ true)) (same_Ok 2 tries h) (refl, refl)
-retries_is name (Some text) tries h = some_tries_is name (number 16 text) tries (λ n e. number_is 16 n text e) h
+retries_is : (name : List ℕ) (value : Option (List ℕ)) (tries : ℕ) → retries_of name value ≡ Ok tries → (nat_lt 0 tries ≡ true) × (nat_le tries MOST_TRIES ≡ true)
+retries_is name None tries h = subst (λ t. (nat_lt 0 t ≡ true) × (nat_le t MOST_TRIES ≡ true)) (same_Ok DEFAULT_TRIES tries h) (refl, refl)
+retries_is name (Some text) tries h = some_tries_is name (number MOST_TRIES text) tries (λ n e. number_is MOST_TRIES n text e) h
 
 -- the value of an action's option is not empty
 filled : (kind : Kind) (text : List ℕ) → suits (action_option kind) text ≡ true → nat_lt 0 (length text) ≡ true

@@ -4,6 +4,7 @@ use Rattle.std.specs.Prelude.{find, not, nat_lt, nat_eq, option_map, bytes_eq, c
 use Rattle.std.specs.List.{list_all, ends_with}
 use Rattle.std.proofs.lemmas.Bool.{and_parts, and_from, ltb-false}
 use Rattle.std.proofs.lemmas.Slice.Eq.{bytes_eq-Decides}
+use Rattle.fnc_journal.specs.declared.limits.TheConstants.{MOST_OPTIONS}
 use Rattle.fnc_journal.specs.declared.names.Pair.{Pair}
 use Rattle.fnc_journal.specs.Bounds.{is_carrier, is_option_name, is_option_value, is_own, is_own_option}
 use Rattle.fnc_device.specs.declared.fault.DefineFault.{DefineFault}
@@ -19,11 +20,11 @@ formed (o ∷ os) h =
     let found = test_ok (is_option o) (DefineFault.BadOption o.name) (well_formed os) tt h in
     and_from _ _ found.0 (formed os found.1)
 
-pub options_are : (os : List Pair) (u : Unit {0}) → right_options os ≡ Ok u → (length os ≤ 32) × (list_all is_option os ≡ true)
+pub options_are : (os : List Pair) (u : Unit {0}) → right_options os ≡ Ok u → (length os ≤ MOST_OPTIONS) × (list_all is_option os ≡ true)
 options_are os u h =
     let count = bind_ok (few os) (λ few. well_formed os >>= λ formed. distinct_after [] os) u h in
     let each = bind_ok (well_formed os) (λ formed. distinct_after [] os) u count.2 in
-    let room = guard_ok (nat_lt 32 (length os)) DefineFault.TooManyOptions (Ok tt) count.0 count.1 in
+    let room = guard_ok (nat_lt MOST_OPTIONS (length os)) DefineFault.TooManyOptions (Ok tt) count.0 count.1 in
     (ltb-false _ _ room.0, formed os each.1)
 
 -- what is found passes both tests

@@ -1,5 +1,6 @@
 -- What each action is allowed: the word that the agent is sent, its time, and its tries.
 use Rattle.std.specs.Prelude.{ℕ, List, ◌++◌, ◌==◌, if◌then◌else◌, max, Option, Some, None, Result, Ok, Err, unwrap_or, codes}
+use Rattle.fnc_journal.specs.declared.limits.TheConstants.{DEFAULT_TIME, DEFAULT_TRIES, MOST_TRIES}
 use Rattle.fnc_journal.specs.declared.definition.Allowed.{Allowed}
 use Rattle.fnc_journal.specs.declared.entry.Kind.{Kind}
 use Rattle.fnc_journal.specs.declared.names.Pair.{Pair}
@@ -26,7 +27,7 @@ some_time name (Err e) = Err (DefineFault.BadDuration name)
 
 -- the time for all tries, a minute where none is given
 abbrev pub timeout_of : List ℕ → Option (List ℕ) → Result ℕ DefineFault
-timeout_of name None = Ok 60000
+timeout_of name None = Ok DEFAULT_TIME
 timeout_of name (Some text) = some_time name (duration text)
 
 -- no tries are one
@@ -36,8 +37,8 @@ some_tries name (Some n) = Ok (max n 1)
 
 -- the tries in all, two where none are given
 abbrev pub retries_of : List ℕ → Option (List ℕ) → Result ℕ DefineFault
-retries_of name None = Ok 2
-retries_of name (Some text) = some_tries name (number 16 text)
+retries_of name None = Ok DEFAULT_TRIES
+retries_of name (Some text) = some_tries name (number MOST_TRIES text)
 
 -- the word that the agent is sent, the action's own where none is given
 abbrev pub word : Kind → List Pair → List ℕ

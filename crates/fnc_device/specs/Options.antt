@@ -1,6 +1,7 @@
 -- The options of a device: which are well formed, which are passed on to the agent, and what one says.
 use Rattle.std.specs.Prelude.{ℕ, List, [], ◌∷◌, ◌++◌, Bool, true, false, not, ◌&&◌, ◌||◌, ◌==◌, if◌then◌else◌, nat_eq, nat_le, nat_lt, length, filter, find, Option, option_map, Result, Ok, Err, bytes_eq, codes}
 use Rattle.std.specs.List.{list_all, list_any, starts_with, ends_with}
+use Rattle.fnc_journal.specs.declared.limits.TheConstants.{MOST_OPTIONS}
 use Rattle.fnc_journal.specs.declared.entry.Kind.{Kind}
 use Rattle.fnc_journal.specs.declared.names.Pair.{Pair}
 use Rattle.fnc_journal.specs.Bounds.{is_option_name, is_option_value, is_own}
@@ -35,7 +36,7 @@ is_option o = is_option_name o.name && is_option_value o.value && suits o.name o
 
 -- 32 options at most
 abbrev pub few : List Pair → Result (Unit {0}) DefineFault
-few options = if nat_lt 32 (length options) then Err DefineFault.TooManyOptions else Ok tt
+few options = if nat_lt MOST_OPTIONS (length options) then Err DefineFault.TooManyOptions else Ok tt
 
 -- the first option that is not well formed
 abbrev pub well_formed : List Pair → Result (Unit {0}) DefineFault

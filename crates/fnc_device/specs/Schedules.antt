@@ -2,6 +2,7 @@
 -- the place of the device among others.
 use Rattle.std.specs.Prelude.{ℕ, List, [], ◌∷◌, ◌==◌, if◌then◌else◌, Option, Some, None, Result, Ok, Err, bytes_eq, codes, ℤ, pos, neg_ℤ}
 use Rattle.std.specs.List.{list_any}
+use Rattle.fnc_journal.specs.declared.limits.TheConstants.{GREATEST_PRIORITY, MOST_RUNS}
 use Rattle.fnc_journal.specs.declared.definition.Base.{Base}
 use Rattle.fnc_journal.specs.declared.definition.Delay.{Delay}
 use Rattle.fnc_journal.specs.declared.names.Pair.{Pair}
@@ -48,7 +49,7 @@ counted_limit (Some n) = if n == 0 then Err DefineFault.BadLimit else Ok (Some n
 -- how many runs may be alive at once: 1 where no limit is given, any number where it is -1
 abbrev pub limit_of : Option (List ℕ) → Result (Option ℕ) DefineFault
 limit_of None = Ok (Some 1)
-limit_of (Some text) = if bytes_eq text (codes "-1") then Ok None else counted_limit (number 64 text)
+limit_of (Some text) = if bytes_eq text (codes "-1") then Ok None else counted_limit (number MOST_RUNS text)
 
 -- a number that was read, as a priority
 abbrev pub signed : (ℕ → ℤ) → Option ℕ → Result ℤ DefineFault
@@ -59,7 +60,7 @@ signed sign (Some n) = Ok (sign n)
 abbrev pub priority_of_text : List ℕ → Result ℤ DefineFault
 priority_of_text [] = Err DefineFault.BadPriority
 priority_of_text (b ∷ bs) =
-    if b == 45 then signed (λ n. neg_ℤ (pos n)) (number 1000000 bs) else signed pos (number 1000000 (b ∷ bs))
+    if b == 45 then signed (λ n. neg_ℤ (pos n)) (number GREATEST_PRIORITY bs) else signed pos (number GREATEST_PRIORITY (b ∷ bs))
 
 -- the priority, 0 where none is given
 abbrev pub priority_of : Option (List ℕ) → Result ℤ DefineFault

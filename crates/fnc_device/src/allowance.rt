@@ -10,6 +10,7 @@ ghost use Rattle.fnc_device.specs.Steps.{Gives};
 use crate::fault::DefineFault;
 use crate::option::value_of;
 use crate::time::bad_duration;
+use fnc_journal::limits::{DEFAULT_TIME, DEFAULT_TRIES, MOST_TRIES};
 use fnc_journal::{Allowed, Kind, NoMemory, Pair, Text};
 use fnc_text::{read_duration, read_number};
 use std::alloc::Global;
@@ -23,12 +24,6 @@ pub struct Allowances {
     pub list: Allowed,
     pub status: Allowed,
 }
-
-const DEFAULT_TIME: u64 = 60_000;
-
-const DEFAULT_TRIES: u8 = 2;
-
-const MOST_TRIES: u64 = 16;
 
 /// Reads what each action is allowed, in the order of the fields.
 pub fn read_allowances(alloc: Global, options: &[Pair]) -> Result<Allowances, DefineFault>
@@ -85,9 +80,9 @@ fn retries(alloc: Global, options: &[Pair], name: &str) -> Result<u8, DefineFaul
 }
 
 fn some_tries(alloc: Global, name: &str, text: &str) -> Result<u8, DefineFault>
-    ensures { Gives result (some_tries name.now (number 16 text.now)) }
+    ensures { Gives result (some_tries name.now (number MOST_TRIES text.now)) }
 {
-    match read_number(text.as_bytes(), MOST_TRIES) {
+    match read_number(text.as_bytes(), u64::from(MOST_TRIES)) {
         Some(n) => Ok((n as u8).max(1)),
         None => {
             let name = Text::new(alloc, name)?;

@@ -1,21 +1,16 @@
 // The options of a device: `name=value` pairs, of the fencer and of the device's agent.
 
 ghost use Rattle.std.specs.Prelude.{◌≡◌, [], IfOk};
-ghost use Rattle.std.specs.List.{list_all};
 ghost use Rattle.std.specs.Option.{option_copied};
-ghost use Rattle.fnc_journal.specs.Bounds.{is_option_byte, is_option_name, is_option_value, is_own, is_value_byte};
 ghost use Rattle.fnc_device.specs.Options.{is_action_option, is_argument, suits, is_option, few, well_formed, distinct_after, right_options, value_of, own_options};
 ghost use Rattle.fnc_device.specs.Steps.{Gives};
 
 use crate::fault::DefineFault;
-use fnc_journal::{NoMemory, Pair, Pairs, Text, find_pair, has_pair};
+use fnc_journal::limits::MOST_OPTIONS;
+use fnc_journal::{
+    NoMemory, Pair, Pairs, Text, find_pair, has_pair, is_option_name, is_option_value, is_own,
+};
 use std::alloc::Global;
-
-const MOST_OPTIONS: usize = 32;
-
-const LONGEST_NAME: usize = 64;
-
-const LONGEST_VALUE: usize = 4096;
 
 /// Looks over the options as such: how many they are, then each by itself, then for repeated names.
 pub fn check_options(alloc: Global, options: &[Pair]) -> Result<(), DefineFault>
@@ -75,49 +70,6 @@ fn suits(name: &str, value: &str) -> bool
     }
 }
 
-/// Whether a text can be the name of an option: 1 to 64 bytes, none of them a control byte, a space
-/// or `=`, and the first no `#`.
-pub fn is_option_name(name: &str) -> bool
-    ensures { result ≡ is_option_name name.now }
-{
-    match name.as_bytes() {
-        [] => false,
-        [first, ..] => *first != b'#'
-            && name.len() <= LONGEST_NAME
-            && are_name_bytes(name.as_bytes()),
-    }
-}
-
-fn are_name_bytes(text: &[u8]) -> bool
-    ensures { result ≡ list_all is_option_byte text.now }
-{
-    text.iter().all(|b| is_name_byte(*b))
-}
-
-fn is_name_byte(byte: u8) -> bool
-    ensures { result ≡ is_option_byte byte }
-{
-    byte >= 0x21 && byte != 0x7F && byte != b'='
-}
-
-fn is_option_value(value: &str) -> bool
-    ensures { result ≡ is_option_value value.now }
-{
-    value.len() <= LONGEST_VALUE && are_value_bytes(value.as_bytes())
-}
-
-fn are_value_bytes(text: &[u8]) -> bool
-    ensures { result ≡ list_all is_value_byte text.now }
-{
-    text.iter().all(|b| is_value_byte(*b))
-}
-
-fn is_value_byte(byte: u8) -> bool
-    ensures { result ≡ is_value_byte byte }
-{
-    byte >= 0x20 && byte != 0x7F
-}
-
 fn is_argument(value: &str) -> bool
     ensures { result ≡ is_argument value.now }
 {
@@ -132,13 +84,6 @@ fn is_action_option(name: &str) -> bool
         || name == "pcmk_reboot_action"
         || name == "pcmk_list_action"
         || name == "pcmk_status_action"
-}
-
-/// Whether an option is passed on to the agent.
-fn is_own(name: &str) -> bool
-    ensures { result ≡ is_own name.now }
-{
-    !name.as_bytes().starts_with(b"pcmk_") && name != "priority"
 }
 
 /// What an option says, where it is given.

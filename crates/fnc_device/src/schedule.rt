@@ -13,6 +13,7 @@ use crate::fault::DefineFault;
 use crate::option::value_of;
 use crate::time::{read_time, time_of};
 use fnc_hosts::{HostFault, read_host_map};
+use fnc_journal::limits::{GREATEST_PRIORITY, MOST_RUNS};
 use fnc_journal::{Base, Delay, Delays, Pair, Pairs, Text};
 use fnc_text::read_number;
 use std::alloc::Global;
@@ -25,10 +26,6 @@ pub struct Schedule {
     pub cap: Option<u32>,
     pub priority: i32,
 }
-
-const MOST_RUNS: u64 = 64;
-
-const HIGHEST_PRIORITY: u64 = 1_000_000;
 
 /// Reads the base and the max of the delay, the limit and the priority, in this order.
 pub fn read_schedule(alloc: Global, options: &[Pair]) -> Result<Schedule, DefineFault>
@@ -116,9 +113,9 @@ fn limit(options: &[Pair]) -> Result<Option<u32>, DefineFault>
 }
 
 fn counted_limit(text: &str) -> Result<Option<u32>, DefineFault>
-    ensures { result ≡ counted_limit (number 64 text.now) }
+    ensures { result ≡ counted_limit (number MOST_RUNS text.now) }
 {
-    match read_number(text.as_bytes(), MOST_RUNS) {
+    match read_number(text.as_bytes(), u64::from(MOST_RUNS)) {
         None | Some(0) => Err(DefineFault::BadLimit),
         Some(n) => Ok(Some(n as u32)),
     }
@@ -137,11 +134,11 @@ fn priority_of_text(text: &[u8]) -> Result<i32, DefineFault>
     ensures { result ≡ priority_of_text text.now }
 {
     match text {
-        [b'-', digits @ ..] => match read_number(digits, HIGHEST_PRIORITY) {
+        [b'-', digits @ ..] => match read_number(digits, u64::from(GREATEST_PRIORITY)) {
             Some(n) => Ok(-(n as i32)),
             None => Err(DefineFault::BadPriority),
         },
-        _ => match read_number(text, HIGHEST_PRIORITY) {
+        _ => match read_number(text, u64::from(GREATEST_PRIORITY)) {
             Some(n) => Ok(n as i32),
             None => Err(DefineFault::BadPriority),
         },

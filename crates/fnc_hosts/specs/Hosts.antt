@@ -1,6 +1,7 @@
 -- Host lists and host maps.
 use Rattle.std.specs.Prelude.{◌≡◌, ℕ, List, [], ◌∷◌, Bool, ◌==◌, if◌then◌else◌, nat_lt, length, map, Result, Ok, Err}
 use Rattle.std.specs.List.{position_or_len, before_first, after_first}
+use Rattle.fnc_journal.specs.declared.limits.TheConstants.{LONGEST_NAME, MOST_HOSTS}
 use Rattle.fnc_journal.specs.declared.names.Pair.{Pair}
 use Rattle.fnc_hosts.specs.declared.hosts.HostFault.{HostFault}
 use Rattle.fnc_hosts.specs.Entries.{Entry, entries, separates_list, separates_map}
@@ -18,11 +19,11 @@ together (Err fault ∷ rest) = Err fault
 
 -- 256 entries at most, each read by a function
 abbrev pub each_entry : {X : Type 0} → (Entry → Result X HostFault) → List Entry → Result (List X) HostFault
-each_entry read es = if nat_lt 256 (length es) then Err HostFault.TooMany else together (map read es)
+each_entry read es = if nat_lt MOST_HOSTS (length es) then Err HostFault.TooMany else together (map read es)
 
 -- an entry of a list is a name of at most 255 bytes
 abbrev pub host : Entry → Result (List ℕ) HostFault
-host e = if nat_lt 255 (length e.text) then Err (HostFault.LongName e.place) else Ok e.text
+host e = if nat_lt LONGEST_NAME (length e.text) then Err (HostFault.LongName e.place) else Ok e.text
 
 -- the names that a host list has, or its first fault
 abbrev pub host_list : List ℕ → Result (List (List ℕ)) HostFault
@@ -37,7 +38,7 @@ abbrev pub named : ℕ → List ℕ → List ℕ → Result Pair HostFault
 named place name port =
     if length name == 0 then Err (HostFault.EmptyName place)
     else (if length port == 0 then Err (HostFault.EmptyPort place)
-    else (if nat_lt 255 (length name) then Err (HostFault.LongName place)
+    else (if nat_lt LONGEST_NAME (length name) then Err (HostFault.LongName place)
     else Ok (record { name = name; value = port })))
 
 -- an entry of a map is cut at its first colon

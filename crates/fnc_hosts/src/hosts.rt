@@ -6,6 +6,7 @@ ghost use Rattle.fnc_hosts.specs.Hosts.{host_list, host_map, host, host_pair, Gi
 ghost use Rattle.fnc_hosts.specs.declared.hosts.HostFault.TheVariants.{NoMemory};
 
 use crate::entry::{Form, first_entry};
+use fnc_journal::limits::{LONGEST_NAME, MOST_HOSTS};
 use fnc_journal::{Names, Pair, Pairs, Text};
 use std::alloc::Global;
 use thiserror::Error;
@@ -41,15 +42,11 @@ impl From<fnc_journal::NoMemory> for HostFault {
     }
 }
 
-const MOST_ENTRIES: usize = 256;
-
-const LONGEST_NAME: usize = 255;
-
 /// The names of a host list, which commas, semicolons and spaces separate.
 pub fn read_host_list(alloc: Global, text: &str) -> Result<Names, HostFault>
     ensures { Gives result (host_list text.now) }
 {
-    if count_entries(Form::List, text) > MOST_ENTRIES {
+    if count_entries(Form::List, text) > MOST_HOSTS {
         return Err(HostFault::TooMany);
     }
     let mut names = Names::new(alloc);
@@ -67,7 +64,7 @@ pub fn read_host_list(alloc: Global, text: &str) -> Result<Names, HostFault>
 pub fn read_host_map(alloc: Global, text: &str) -> Result<Pairs, HostFault>
     ensures { Gives result (host_map text.now) }
 {
-    if count_entries(Form::Map, text) > MOST_ENTRIES {
+    if count_entries(Form::Map, text) > MOST_HOSTS {
         return Err(HostFault::TooMany);
     }
     let mut pairs = Pairs::new(alloc);

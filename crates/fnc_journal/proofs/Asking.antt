@@ -4,8 +4,7 @@ use Rattle.std.specs.Prelude.{filter, filter_map, option_and_then}
 use Rattle.std.specs.List.{AllByRecursion}
 use Rattle.fnc_journal.specs.declared.entry.Entry.{Entry}
 use Rattle.fnc_journal.specs.declared.event.Event.{Event}
-use Rattle.fnc_journal.specs.declared.entry.Kind.{Kind}
-use Rattle.fnc_journal.specs.declared.entry.Scope.{Scope}
+use Rattle.fnc_journal.specs.declared.event.Request.{Request}
 use Rattle.fnc_journal.specs.History.{History}
 use Rattle.fnc_journal.specs.Missing.{has_any}
 use Rattle.fnc_journal.specs.Found.{Asked, asked, asks, is_answered}
@@ -16,70 +15,81 @@ use Rattle.fnc_journal.proofs.Each.{each-map, each-filter, filter-same, filter-a
 use Rattle.fnc_journal.proofs.Requests.{fresh_ask}
 use Rattle.fnc_journal.proofs.Fresh.{unasked_unanswered, unasked_unrequested, operations-small}
 
+-- a request as one that begins its own operation
+abbrev pub begins : Request → Request
+begins q = record q { lead = q.req }
+
 -- the entry of a request that begins its own operation
-abbrev pub ask_entry : ℕ → ℕ → List ℕ → Kind → List ℕ → ℕ → ℕ → Scope → Entry
-ask_entry m n client kind target total coin scope =
-    record { moment = m; event = Event.Ask (record { req = record { 0 = n }; lead = record { 0 = n }; client = client; kind = kind; target = target; total = total; coin = coin; scope = scope }) }
+abbrev pub ask_entry : ℕ → Request → Entry
+ask_entry m q = record { moment = m; event = Event.Ask (begins q) }
 
 -- what is asked, after what lay before
-abbrev pub asked_as : ℕ → ℕ → Kind → List ℕ → ℕ → ℕ → Scope → History → Asked
-asked_as m n kind target total coin scope h =
-    record { moment = m; lead = n; kind = kind; target = target; total = total; coin = coin; scope = scope; before = h }
+abbrev pub asked_as : ℕ → Request → History → Asked
+asked_as m q h = record {
+  moment = m;
+  lead = q.req.0;
+  kind = q.kind;
+  target = q.target;
+  total = q.total;
+  coin = q.coin;
+  scope = q.scope;
+  before = h;
+}
 
 -- a request of the next number is found
-pub asked-new : (h : History) → Lawful h → (m n : ℕ) (client : List ℕ) (kind : Kind) (target : List ℕ) (total coin : ℕ) (scope : Scope) → n ≡ asks h →
-    asked n (ask_entry m n client kind target total coin scope ∷ h) ≡ Some (asked_as m n kind target total coin scope h)
-asked-new h l m n client kind target total coin scope e =
-    let fresh : asked n h ≡ None = fresh_ask h l n (omega (arith, e)) in
-    let same : (n == n) ≡ true = eq-eqb n n refl in
+pub asked-new : (h : History) → Lawful h → (m : ℕ) (q : Request) → q.req.0 ≡ asks h →
+    asked q.req.0 (ask_entry m q ∷ h) ≡ Some (asked_as m q h)
+asked-new h l m q e =
+    let fresh : asked q.req.0 h ≡ None = fresh_ask h l q.req.0 (omega (arith, e)) in
+    let same : (q.req.0 == q.req.0) ≡ true = eq-eqb q.req.0 q.req.0 refl in
     rw (fresh, same) refl
 
-pub operation-new : (h : History) → Lawful h → (m n : ℕ) (client : List ℕ) (kind : Kind) (target : List ℕ) (total coin : ℕ) (scope : Scope) → n ≡ asks h →
-    operation n (ask_entry m n client kind target total coin scope ∷ h) ≡ Some (operation_of n (asked_as m n kind target total coin scope h))
-operation-new h l m n client kind target total coin scope e =
-    ap (option_and_then (led n)) (asked-new h l m n client kind target total coin scope e)
-    ∙ (let same : (n == n) ≡ true = eq-eqb n n refl in rw same refl)
+pub operation-new : (h : History) → Lawful h → (m : ℕ) (q : Request) → q.req.0 ≡ asks h →
+    operation q.req.0 (ask_entry m q ∷ h) ≡ Some (operation_of q.req.0 (asked_as m q h))
+operation-new h l m q e =
+    ap (option_and_then (led q.req.0)) (asked-new h l m q e)
+    ∙ (let same : (q.req.0 == q.req.0) ≡ true = eq-eqb q.req.0 q.req.0 refl in rw same refl)
 
 -- it waits alone for its own operation
-pub unanswered-new : (h : History) → Lawful h → (m n : ℕ) (client : List ℕ) (kind : Kind) (target : List ℕ) (total coin : ℕ) (scope : Scope) → n ≡ asks h →
-    unanswered n (ask_entry m n client kind target total coin scope ∷ h) ≡ n ∷ []
-unanswered-new h l m n client kind target total coin scope e =
-    let none : requests n h ≡ [] = unasked_unrequested h l n (omega (arith, e)) in
-    let waits : is_answered n h ≡ false = unasked_unanswered h l n (omega (arith, e)) in
-    let same : (n == n) ≡ true = eq-eqb n n refl in
+pub unanswered-new : (h : History) → Lawful h → (m : ℕ) (q : Request) → q.req.0 ≡ asks h →
+    unanswered q.req.0 (ask_entry m q ∷ h) ≡ q.req.0 ∷ []
+unanswered-new h l m q e =
+    let none : requests q.req.0 h ≡ [] = unasked_unrequested h l q.req.0 (omega (arith, e)) in
+    let waits : is_answered q.req.0 h ≡ false = unasked_unanswered h l q.req.0 (omega (arith, e)) in
+    let same : (q.req.0 == q.req.0) ≡ true = eq-eqb q.req.0 q.req.0 refl in
     rw (same, none, waits) refl
 
 -- and changes nothing of who waits for another
-pub unanswered-other : (h : History) (m n o : ℕ) (client : List ℕ) (kind : Kind) (target : List ℕ) (total coin : ℕ) (scope : Scope) → (o == n) ≡ false →
-    unanswered o (ask_entry m n client kind target total coin scope ∷ h) ≡ unanswered o h
-unanswered-other h m n o client kind target total coin scope e = rw e refl
+pub unanswered-other : (h : History) (m : ℕ) (q : Request) (o : ℕ) → (o == q.req.0) ≡ false →
+    unanswered o (ask_entry m q ∷ h) ≡ unanswered o h
+unanswered-other h m q o e = rw e refl
 
 -- an operation that began earlier is the same after a request of a number to come
-operation-earlier : (h : History) (m n : ℕ) (client : List ℕ) (kind : Kind) (target : List ℕ) (total coin : ℕ) (scope : Scope) (o : ℕ) → (o == n) ≡ false →
-    operation o (ask_entry m n client kind target total coin scope ∷ h) ≡ operation o h
-operation-earlier h m n client kind target total coin scope o e = rw e refl
+operation-earlier : (h : History) (m : ℕ) (q : Request) (o : ℕ) → (o == q.req.0) ≡ false →
+    operation o (ask_entry m q ∷ h) ≡ operation o h
+operation-earlier h m q o e = rw e refl
 
 -- the operations that are open after a request that begins its own: those before, and it
-pub open-asked : (h : History) → Lawful h → (m n : ℕ) (client : List ℕ) (kind : Kind) (target : List ℕ) (total coin : ℕ) (scope : Scope) → n ≡ asks h →
-    open_operations (ask_entry m n client kind target total coin scope ∷ h)
-    ≡ open_operations h ++ operation_of n (asked_as m n kind target total coin scope h) ∷ []
-open-asked h l m n client kind target total coin scope e =
-    ap (λ os. filter_map (λ o. operation o (ask_entry m n client kind target total coin scope ∷ h)) (filter (λ o. is_open o (ask_entry m n client kind target total coin scope ∷ h)) os)) listed
-    ∙ ap (filter_map (λ o. operation o (ask_entry m n client kind target total coin scope ∷ h))) (filter-append (λ o. is_open o (ask_entry m n client kind target total coin scope ∷ h)) (operations h) n opened ∙ ap (λ os. os ++ n ∷ []) kept)
-    ∙ filter_map-append (λ o. operation o (ask_entry m n client kind target total coin scope ∷ h)) (filter (λ o. is_open o h) (operations h)) n _ (operation-new h l m n client kind target total coin scope e)
-    ∙ ap (λ os. os ++ operation_of n (asked_as m n kind target total coin scope h) ∷ []) (filter_map-same _ _ _ (each-filter _ (λ o. is_open o h) (operations h) earlier))
+pub open-asked : (h : History) → Lawful h → (m : ℕ) (q : Request) → q.req.0 ≡ asks h →
+    open_operations (ask_entry m q ∷ h)
+    ≡ open_operations h ++ operation_of q.req.0 (asked_as m q h) ∷ []
+open-asked h l m q e =
+    ap (λ os. filter_map (λ o. operation o (ask_entry m q ∷ h)) (filter (λ o. is_open o (ask_entry m q ∷ h)) os)) listed
+    ∙ ap (filter_map (λ o. operation o (ask_entry m q ∷ h))) (filter-append (λ o. is_open o (ask_entry m q ∷ h)) (operations h) q.req.0 opened ∙ ap (λ os. os ++ q.req.0 ∷ []) kept)
+    ∙ filter_map-append (λ o. operation o (ask_entry m q ∷ h)) (filter (λ o. is_open o h) (operations h)) q.req.0 _ (operation-new h l m q e)
+    ∙ ap (λ os. os ++ operation_of q.req.0 (asked_as m q h) ∷ []) (filter_map-same _ _ _ (each-filter _ (λ o. is_open o h) (operations h) earlier))
   where
-    others : AllByRecursion (λ o. (o == n) ≡ false) (operations h)
-    others = each-map _ _ (operations h) (λ o k. ne_eqb o n (λ g. omega (arith, e))) (operations-small h l)
+    others : AllByRecursion (λ o. (o == q.req.0) ≡ false) (operations h)
+    others = each-map _ _ (operations h) (λ o k. ne_eqb o q.req.0 (λ g. omega (arith, e))) (operations-small h l)
 
-    listed : operations (ask_entry m n client kind target total coin scope ∷ h) ≡ operations h ++ n ∷ []
-    listed = let same : (n == n) ≡ true = eq-eqb n n refl in rw same refl
+    listed : operations (ask_entry m q ∷ h) ≡ operations h ++ q.req.0 ∷ []
+    listed = let same : (q.req.0 == q.req.0) ≡ true = eq-eqb q.req.0 q.req.0 refl in rw same refl
 
-    opened : is_open n (ask_entry m n client kind target total coin scope ∷ h) ≡ true
-    opened = ap has_any (unanswered-new h l m n client kind target total coin scope e)
+    opened : is_open q.req.0 (ask_entry m q ∷ h) ≡ true
+    opened = ap has_any (unanswered-new h l m q e)
 
-    kept : filter (λ o. is_open o (ask_entry m n client kind target total coin scope ∷ h)) (operations h) ≡ filter (λ o. is_open o h) (operations h)
-    kept = filter-same _ _ (operations h) (each-map _ _ (operations h) (λ o k. ap has_any (unanswered-other h m n o client kind target total coin scope k)) others)
+    kept : filter (λ o. is_open o (ask_entry m q ∷ h)) (operations h) ≡ filter (λ o. is_open o h) (operations h)
+    kept = filter-same _ _ (operations h) (each-map _ _ (operations h) (λ o k. ap has_any (unanswered-other h m q o k)) others)
 
-    earlier : AllByRecursion (λ o. operation o (ask_entry m n client kind target total coin scope ∷ h) ≡ operation o h) (operations h)
-    earlier = each-map _ _ (operations h) (λ o k. operation-earlier h m n client kind target total coin scope o k) others
+    earlier : AllByRecursion (λ o. operation o (ask_entry m q ∷ h) ≡ operation o h) (operations h)
+    earlier = each-map _ _ (operations h) (λ o k. operation-earlier h m q o k) others

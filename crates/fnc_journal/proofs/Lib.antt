@@ -1,3 +1,7 @@
+pub mod Finds
+pub mod SettledLanes
+pub mod Heads
+pub mod Tables
 pub mod Forwards
 pub mod Frames
 pub mod ActsLemmas

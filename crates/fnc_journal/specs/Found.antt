@@ -6,6 +6,7 @@ use Rattle.fnc_journal.specs.declared.entry.Entry.{Entry}
 use Rattle.fnc_journal.specs.declared.event.Event.{Event}
 use Rattle.fnc_journal.specs.declared.entry.Kind.{Kind}
 use Rattle.fnc_journal.specs.declared.entry.Scope.{Scope}
+use Rattle.fnc_journal.specs.declared.event.Request.{Request}
 use Rattle.fnc_journal.specs.declared.event.Start.{Start}
 use Rattle.fnc_journal.specs.declared.definition.Registration.{Registration}
 use Rattle.fnc_journal.specs.History.{History}
@@ -26,10 +27,20 @@ abbrev pub is_ask_of : ℕ → Event → Bool
 is_ask_of r (Event.Ask ask) = r == ask.req.0
 is_ask_of r _ = false
 
+-- whether it registers a device under a number
+abbrev pub is_device_of : ℕ → Event → Bool
+is_device_of n (Event.Device device) = n == device.reg.0
+is_device_of n _ = false
+
 -- whether it starts a run
 abbrev pub is_start : Event → Bool
 is_start (Event.Start start) = true
 is_start _ = false
+
+-- whether it starts the run of a number
+abbrev pub is_start_of : ℕ → Event → Bool
+is_start_of n (Event.Start start) = n == start.run.0
+is_start_of n _ = false
 
 -- whether it is a reply
 abbrev pub is_reply : Event → Bool
@@ -99,6 +110,19 @@ asked_here r moment before _ = None
 abbrev pub asked : ℕ → History → Option Asked
 asked r [] = None
 asked r (e ∷ before) = or_here (asked r before) (asked_here r e.moment before e.event)
+
+-- what its entry says of a request, apart from what lies before it
+abbrev pub said : Asked → Asked
+said a = record a { before = [] }
+
+-- the request that an entry asks, if it has that number
+abbrev pub requested_here : ℕ → Event → Option Request
+requested_here r (Event.Ask ask) = if r == ask.req.0 then Some ask else None
+requested_here r _ = None
+
+-- the request of a number, as its entry says it
+abbrev pub request : ℕ → History → Option Request
+request r h = first_found (λ e. requested_here r e.event) h
 
 -- what an entry says of the start of the run of a number
 abbrev pub started_here : ℕ → Event → Option Start

@@ -5,7 +5,10 @@ pub mod Exits
 pub mod Found
 pub mod Device
 pub mod Bounds
+pub mod Links
+pub mod Table
 pub mod Registered
+pub mod Heads
 pub mod Levels
 pub mod Kept
 pub mod Plan
@@ -16,6 +19,7 @@ pub mod Due
 pub mod Operations
 pub mod Startable
 pub mod Owed
+pub mod Index
 pub mod Lawful
 pub mod Driven
 pub mod Served

@@ -1,8 +1,7 @@
 // The journal: a list of entries that grows at its end.
 
-use crate::definition::Registration;
-use crate::entry::{Entry, Reg, Req};
-use crate::event::Event;
+use crate::entry::Entry;
+use crate::index::Index;
 use crate::outcome::NoMemory;
 use std::alloc::Global;
 use std::marker::Model;
@@ -11,24 +10,27 @@ use std::marker::Model;
 #[derive(Debug, Drop)]
 pub struct Journal {
     entries: Vec<Entry>,
+    index: Index,
     limit: u32,
 }
 
 impl Model for Journal {
     ghost use Rattle.std.specs.Prelude.{ℕ, List, reverse, vec_len, vec_capacity, ◌≤◌, ◌<◌, ◌^◌};
     ghost use Rattle.fnc_journal.specs.History.{Journaled};
+    ghost use Rattle.fnc_journal.specs.Index.{IsIndex};
 
     ghost Value = { Journaled };
 
     ghost view = { λ j. record { history = reverse j.entries.items; limit = j.limit } };
 
-    ghost invariant = { λ j. (vec_len j.entries ≤ j.limit) × (j.limit ≤ vec_capacity j.entries) × (j.limit < 2 ^ 32) };
+    ghost invariant = { λ j. (vec_len j.entries ≤ j.limit) × (j.limit ≤ vec_capacity j.entries) × (j.limit < 2 ^ 32)
+        × IsIndex j.limit (reverse j.entries.items) j.index };
 }
 
-ghost use Rattle.std.specs.Prelude.{◌≡◌, ◌<◌, ◌≤◌, ◌∷◌, [], length, find, reverse, slice_get, Some, IfOk};
+ghost use Rattle.std.specs.Prelude.{◌≡◌, ◌<◌, ◌≤◌, ◌∷◌, [], length, slice_get, Some, IfOk};
 ghost use Rattle.std.specs.Option.{option_copied};
 ghost use Rattle.fnc_journal.specs.Found as Found;
-ghost use Rattle.fnc_journal.specs.Forward as Forward;
+ghost use Rattle.fnc_journal.specs.Index.{IsIndex};
 
 impl Journal {
     /// An empty journal with room for `limit` entries, all of which is taken here.
@@ -39,7 +41,12 @@ impl Journal {
         ensures limit { IfOk result (λ j. j.limit ≡ limit) }
     {
         let entries = Vec::with_capacity(alloc, limit as usize)?;
-        Ok(Journal { entries, limit })
+        let index = Index::with_room(alloc, limit)?;
+        Ok(Journal {
+            entries,
+            index,
+            limit,
+        })
     }
 
     /// Adds an entry at the end, in room that `with_limit` took.
@@ -48,7 +55,11 @@ impl Journal {
         ensures history { self.new.history ≡ entry ∷ self.old.history }
         ensures limit { self.new.limit ≡ self.old.limit }
     {
-        let _ = self.entries.push(entry);
+        let at = self.len();
+        let operation = self.operation_of(&entry.event);
+        let least = self.least_of(&entry.event);
+        self.index.enter(&entry.event, operation, least, at);
+        self.entries.push_reserved(entry);
     }
 
     /// How many entries it has.
@@ -73,69 +84,19 @@ impl Journal {
         entry_in(&self.entries, index)
     }
 
-    /// What the registration of a number was made with: what the first Device entry of that number
-    /// says. None where there is none.
-    pub fn registration(&self, reg: Reg) -> Option<&Registration>
-        ensures { option_copied result ≡ Found.registration reg.0 self.now.history }
-    {
-        registration_in(&self.entries, reg)
-    }
-
-    /// The newest entry that asks the request of a number, which in a lawful journal is the only one.
-    /// The search begins at the newest entry. None where there is none.
-    pub fn latest_ask(&self, req: Req) -> Option<&Entry>
-        ensures { option_copied result ≡ find (λ e. Found.is_ask_of req.0 e.event) self.now.history }
-    {
-        latest_ask_in(&self.entries, req)
-    }
-
     /// How many entries it may have.
     pub fn limit(&self) -> u32
         ensures { result ≡ self.now.limit }
     {
         self.limit
     }
-}
 
-fn registration_here(event: &Event, reg: Reg) -> Option<&Registration>
-    ensures { option_copied result ≡ Found.registration_here reg.0 event.now }
-{
-    match event {
-        Event::Device(device) => {
-            if reg.0 == device.reg.0 {
-                Some(device.registration.get())
-            } else {
-                None
-            }
-        }
-        _ => None,
+    /// Where each thing stands in it.
+    pub(crate) fn index(&self) -> &Index
+        ensures { IsIndex self.now.limit self.now.history result.now }
+    {
+        &self.index
     }
-}
-
-fn registration_in(entries: &[Entry], reg: Reg) -> Option<&Registration>
-    ensures { option_copied result ≡ Forward.found (λ e. Found.registration_here reg.0 e.event) entries.now }
-{
-    for e in entries {
-        if let Some(registration) = registration_here(&e.event, reg) {
-            return Some(registration);
-        }
-    }
-    None
-}
-
-fn is_ask_of(event: &Event, req: Req) -> bool
-    ensures { result ≡ Found.is_ask_of req.0 event.now }
-{
-    match event {
-        Event::Ask(request) => req.0 == request.get().req.0,
-        _ => false,
-    }
-}
-
-fn latest_ask_in(entries: &[Entry], req: Req) -> Option<&Entry>
-    ensures { option_copied result ≡ find (λ e. Found.is_ask_of req.0 e.event) (reverse entries.now) }
-{
-    entries.iter().rev().find(|e| is_ask_of(&e.event, req))
 }
 
 fn get_in(entries: &[Entry], index: u32) -> Option<&Entry>

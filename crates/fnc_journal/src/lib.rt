@@ -4,14 +4,27 @@
 
 mod boxed;
 mod cause;
+mod cells;
+mod chains;
 mod definition;
 mod entry;
 mod event;
+mod firsts;
+mod homes;
+mod index;
+#[cfg(test)]
+mod index_tests;
 mod journal;
+mod lanes;
+pub mod limits;
+mod links;
+mod lookups;
 mod names;
+mod option;
 mod outcome;
 mod plan;
 mod sequence;
+mod stray;
 #[cfg(test)]
 mod tests;
 mod text;
@@ -29,6 +42,7 @@ pub use event::{
 };
 pub use journal::Journal;
 pub use names::{Names, Pair, Pairs, find_pair, has_name, has_pair};
+pub use option::{is_option_name, is_option_value, is_own, is_value_byte};
 pub use outcome::{Full, NoMemory, Outcome, Rule};
 pub use plan::{Candidate, Candidates, Levels, Places, Plan, PlanLevel};
 pub use sequence::Sequence;

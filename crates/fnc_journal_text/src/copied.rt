@@ -23,6 +23,9 @@ struct Copied {
 impl Sink for Copied {
     ghost held = { λ s. Some s.bytes.items };
 
+    // nothing waits
+    ghost unsent = { λ _. 0 };
+
     ghost faults = { λ s. if s.failed then 2 ^ 64 - 1 else 0 };
 
     fn write(&mut self, piece: &[u8]) -> Result<(), SinkFailed>
@@ -37,6 +40,10 @@ impl Sink for Copied {
             self.failed = true;
             Err(SinkFailed)
         }
+    }
+
+    fn flush(&mut self) -> Result<(), SinkFailed> {
+        Ok(())
     }
 }
 

@@ -2,13 +2,9 @@
 use Rattle.std.proofs.Common.{ℕ, List, [], ◌∷◌, ◌++◌, Bool, true, false, ◌≡◌, ◌<◌, ◌≤◌, ◌+◌, ◌-◌, ◌==◌, refl, ap, sym, ◌∙◌, subst, Option, Some, None, cond, not, is_some, arith, length, eqb-true, eq-eqb, ne_eqb, IsTrue, ◌||◌}
 use Rattle.std.specs.Prelude.{filter, find}
 use Rattle.std.specs.List.{list_any, AllByRecursion}
+use Rattle.fnc_journal.specs.declared.event.Ended.{Ended}
+use Rattle.fnc_journal.specs.declared.event.Start.{Start}
 use Rattle.fnc_journal.specs.declared.event.Event.{Event}
-use Rattle.fnc_journal.specs.declared.entry.Exit.{Exit}
-use Rattle.fnc_journal.specs.declared.entry.Kind.{Kind}
-use Rattle.fnc_journal.specs.declared.entry.Reg.{Reg}
-use Rattle.fnc_journal.specs.declared.entry.Req.{Req}
-use Rattle.fnc_journal.specs.declared.entry.Run.{Run}
-use Rattle.fnc_journal.specs.declared.entry.Slot.{Slot}
 use Rattle.fnc_journal.specs.History.{History}
 use Rattle.fnc_journal.specs.Found.{starts, has_exit}
 use Rattle.fnc_journal.specs.Missing.{append_some}
@@ -130,26 +126,26 @@ all-counted [] = refl
 all-counted (b ∷ bs) = let ih : count_of (λ b. true) bs ≡ length bs = all-counted bs in omega (arith, ih)
 
 -- one more is alive after a start
-pub alive-started : (h : History) → Lawful h → (m : ℕ) (run : Run) (req : Req) (slot : Slot) (reg : Reg) (kind : Kind) (attempt : ℕ) → run.0 ≡ starts h →
-    length (alive_runs (start_entry m run req slot reg kind attempt ∷ h)) ≡ length (alive_runs h) + 1
-alive-started h l m run req slot reg kind attempt e =
-    let now : alive_runs (start_entry m run req slot reg kind attempt ∷ h) ≡ alive_runs h ++ record { run = run.0; reg = reg.0 } ∷ [] = alive_runs-start h l m run req slot reg kind attempt e in
-    let more : count_of (λ b. true) (alive_runs h ++ record { run = run.0; reg = reg.0 } ∷ []) ≡ count_of (λ b. true) (alive_runs h) + 1 = count-append (λ b. true) (alive_runs h) (record { run = run.0; reg = reg.0 }) in
+pub alive-started : (h : History) → Lawful h → (m : ℕ) (start : Start) → start.run.0 ≡ starts h →
+    length (alive_runs (start_entry m start ∷ h)) ≡ length (alive_runs h) + 1
+alive-started h l m start e =
+    let now : alive_runs (start_entry m start ∷ h) ≡ alive_runs h ++ record { run = start.run.0; reg = start.reg.0 } ∷ [] = alive_runs-start h l m start e in
+    let more : count_of (λ b. true) (alive_runs h ++ record { run = start.run.0; reg = start.reg.0 } ∷ []) ≡ count_of (λ b. true) (alive_runs h) + 1 = count-append (λ b. true) (alive_runs h) (record { run = start.run.0; reg = start.reg.0 }) in
     let all : count_of (λ b. true) (alive_runs h) ≡ length (alive_runs h) = all-counted (alive_runs h) in
     ap length now ∙ sym (all-counted _) ∙ more ∙ ap (λ n. n + 1) all
 
 -- and one less after the exit of one of them
-pub alive-ended : (h : History) → Lawful h → (m : ℕ) (run : Run) (exit : Exit) (listed : Bool) → is_alive run.0 h ≡ true →
-    length (alive_runs h) - 1 ≡ length (alive_runs (exit_entry m run exit listed ∷ h))
-alive-ended h l m run exit listed e = go (find (λ (c : Begun). run.0 == c.run) (alive_runs h)) refl (found-any run.0 (alive_runs h) (alive-listed run.0 h ∙ e))
+pub alive-ended : (h : History) → Lawful h → (m : ℕ) (over : Ended) → is_alive over.run.0 h ≡ true →
+    length (alive_runs h) - 1 ≡ length (alive_runs (exit_entry m over ∷ h))
+alive-ended h l m over e = go (find (λ (c : Begun). over.run.0 == c.run) (alive_runs h)) refl (found-any over.run.0 (alive_runs h) (alive-listed over.run.0 h ∙ e))
   where
-    go : (x : Option Begun) → find (λ (c : Begun). run.0 == c.run) (alive_runs h) ≡ x → is_some x ≡ true → length (alive_runs h) - 1 ≡ length (alive_runs (exit_entry m run exit listed ∷ h))
+    go : (x : Option Begun) → find (λ (c : Begun). over.run.0 == c.run) (alive_runs h) ≡ x → is_some x ≡ true → length (alive_runs h) - 1 ≡ length (alive_runs (exit_entry m over ∷ h))
     go None k f = cc
     go (Some b) k f =
-        let less : count_of (λ b. true) (without run.0 (alive_runs h)) + 1 ≡ count_of (λ b. true) (alive_runs h) = count-without (λ b. true) run.0 (alive_runs h) b (alive-apart h l) k in
+        let less : count_of (λ b. true) (without over.run.0 (alive_runs h)) + 1 ≡ count_of (λ b. true) (alive_runs h) = count-without (λ b. true) over.run.0 (alive_runs h) b (alive-apart h l) k in
         let before : count_of (λ b. true) (alive_runs h) ≡ length (alive_runs h) = all-counted (alive_runs h) in
-        let after : count_of (λ b. true) (without run.0 (alive_runs h)) ≡ length (without run.0 (alive_runs h)) = all-counted (without run.0 (alive_runs h)) in
-        let now : length (alive_runs (exit_entry m run exit listed ∷ h)) ≡ length (without run.0 (alive_runs h)) = ap length (alive_runs-exit h m run exit listed) in
+        let after : count_of (λ b. true) (without over.run.0 (alive_runs h)) ≡ length (without over.run.0 (alive_runs h)) = all-counted (without over.run.0 (alive_runs h)) in
+        let now : length (alive_runs (exit_entry m over ∷ h)) ≡ length (without over.run.0 (alive_runs h)) = ap length (alive_runs-exit h m over) in
         omega (arith, less, before, after, now)
 
 length_append_one : (bs : List Begun) (c : Begun) → length (bs ++ c ∷ []) ≡ length bs + 1

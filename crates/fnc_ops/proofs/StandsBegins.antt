@@ -18,7 +18,7 @@ use Rattle.fnc_journal.specs.Owed.{untried, tries_of}
 use Rattle.fnc_journal.proofs.Asking.{open-asked, unanswered-new, unanswered-other}
 use Rattle.fnc_journal.proofs.Fresh.{open-small, unasked_idle}
 use Rattle.fnc_journal.proofs.Requests.{fresh_ask}
-use Rattle.fnc_ops.specs.declared.ops.Operation.{Operation as Request}
+use Rattle.fnc_ops.specs.declared.ops.Operation.{Operation as Begun}
 use Rattle.fnc_ops.specs.Kept.{Kept}
 use Rattle.fnc_ops.specs.KeptOperation.{KeptOperation}
 use Rattle.fnc_ops.specs.OperationFacts.{IsOperation, left_levels}
@@ -26,7 +26,7 @@ use Rattle.fnc_ops.specs.FreshRecords.{unseen_operation, fresh_operation, begun_
 use Rattle.fnc_ops.specs.OpsRecords.{is_of, OthersWait}
 use Rattle.fnc_ops.specs.OperationRecords as OperationRecords
 use Rattle.fnc_ops.specs.OperationRecords.{ranked_if_queried, ranked_levels}
-use Rattle.fnc_ops.specs.Stands.{IsKept, Stands, StandsFor, AreBounded, AreFewDevices, ask_entry, numbers}
+use Rattle.fnc_ops.specs.Stands.{IsKept, Stands, StandsFor, AreBounded, AreFewDevices, ask_entry, begun_request, numbers}
 use Rattle.fnc_ops.proofs.Zip.{zip_append}
 use Rattle.fnc_ops.proofs.StandsExits.{req-ranked, moment-ranked, members-ranked, confirmed-ranked}
 use Rattle.fnc_ops.proofs.FreshOperations.{planned-bare, operation-fresh, untried-fresh, left-fresh}
@@ -46,12 +46,12 @@ unasked_unconfirmed (e ∷ before) l o k = ap₂ ◌||◌ (go e.event) (unasked_
     go _ = refl
 
 -- the operation of a request that begins it
-module _ (r : Request) (p : Plan) (h : History) (client : List ℕ) (lawful : Lawful h) (number : r.req.0 ≡ asks h) (planned : p ≡ Planned.plan (wanted_by r p.scope) h) (bounded : AreBounded h) where
+module _ (r : Begun) (p : Plan) (h : History) (client : List ℕ) (lawful : Lawful h) (number : r.req.0 ≡ asks h) (planned : p ≡ Planned.plan (wanted_by r p.scope) h) (bounded : AreBounded h) where
   abbrev begun : Operation
   begun = begun_by r p h
 
   abbrev after : History
-  after = ask_entry r.moment r.req r.req client r.kind r.target r.total r.coin p.scope ∷ h
+  after = ask_entry r.moment (begun_request r client p.scope) ∷ h
 
   fresh-stands : length p.candidates ≤ 128 → length p.levels ≤ 9 → AreFewDevices p.levels → Stands after (fresh_operation begun) begun
   fresh-stands few few_levels few_devices =
@@ -63,7 +63,7 @@ module _ (r : Request) (p : Plan) (h : History) (client : List ℕ) (lawful : La
       record {
         operation = subst (λ m. IsOperation m (acts r.req.0 h) (fresh_operation begun) begun) (sym (moment-ranked r.moment (unseen_operation begun)))
             (subst (λ (xs : List Act). IsOperation r.moment xs (fresh_operation begun) begun) (sym acts_none) (operation-fresh r p h bounded bare apart few));
-        waiting_are = ap numbers (members-ranked r.moment (unseen_operation begun)) ∙ sym (unanswered-new h lawful r.moment r.req.0 client r.kind r.target r.total r.coin p.scope number);
+        waiting_are = ap numbers (members-ranked r.moment (unseen_operation begun)) ∙ sym (unanswered-new h lawful r.moment (begun_request r client p.scope) number);
         confirmed_is = confirmed-ranked r.moment (unseen_operation begun) ∙ sym (unasked_unconfirmed h lawful begun (omega (arith, number)));
         untried_is = untried_now ∙ sym (ap (untried begun) acts_none);
         enough = omega (arith, untried_now, left);
@@ -73,7 +73,7 @@ module _ (r : Request) (p : Plan) (h : History) (client : List ℕ) (lawful : La
   other-stands : (k : KeptOperation) (o : Operation) → o.req < asks h → Stands h k o → Stands after k o
   other-stands k o less s =
       let other : (o.req == r.req.0) ≡ false = ne_eqb o.req r.req.0 (λ e. omega (arith, less, number, e)) in
-      subst (λ ws. IsKept (acts o.req h) ws (is_confirmed o h) k o) (sym (unanswered-other h r.moment r.req.0 o.req client r.kind r.target r.total r.coin p.scope other)) s
+      subst (λ ws. IsKept (acts o.req h) ws (is_confirmed o h) k o) (sym (unanswered-other h r.moment (begun_request r client p.scope) o.req other)) s
 
   others-stand : (ks : List KeptOperation) (os : List Operation) → AllByRecursion (λ (o : Operation). o.req < asks h) os → AllZip (Stands h) ks os → AllZip (Stands after) ks os
   others-stand [] [] less z = tt
@@ -83,7 +83,7 @@ module _ (r : Request) (p : Plan) (h : History) (client : List ℕ) (lawful : La
 
   pub opened : open_operations after ≡ open_operations h ++ begun ∷ []
   opened =
-      open-asked h lawful r.moment r.req.0 client r.kind r.target r.total r.coin p.scope number
+      open-asked h lawful r.moment (begun_request r client p.scope) number
       ∙ ap (λ (q : Plan). open_operations h ++ operation_by r.req.0 (asked_of r p.scope h) q ∷ []) (sym planned)
 
   pub stands-begun : (v : Kept) → StandsFor v h → length p.candidates ≤ 128 → length p.levels ≤ 9 → AreFewDevices p.levels →
@@ -100,14 +100,14 @@ find-other t [] x e = rw e refl
 find-other t (y ∷ ys) x e = ap (cond (t y) (Some y)) (find-other t ys x e)
 
 -- the other operations wait for what they waited for
-pub others-wait : (r : Request) (p : Plan) (h : History) (v : Kept) → OthersWait r.req.0 v (record v { operations = v.operations ++ fresh_operation (begun_by r p h) ∷ [] })
+pub others-wait : (r : Begun) (p : Plan) (h : History) (v : Kept) → OthersWait r.req.0 v (record v { operations = v.operations ++ fresh_operation (begun_by r p h) ∷ [] })
 others-wait r p h v n e = ap (option_and_then OperationRecords.waiting) (find-other (is_of n) v.operations (fresh_operation (begun_by r p h)) (ap (λ k. k == n) (req-ranked r.moment (unseen_operation (begun_by r p h))) ∙ other))
   where
     other : (r.req.0 == n) ≡ false
     other = ne_eqb r.req.0 n (λ g. let same : (n == r.req.0) ≡ true = eq-eqb n r.req.0 (sym g) in let wrong : true ≡ false = sym same ∙ e in cc)
 
 -- the same whether there was memory or not
-pub others-wait-ever : (r : Request) (p : Plan) (h : History) (v w : Kept) (x : Result (Unit {0}) NoMemory) →
+pub others-wait-ever : (r : Begun) (p : Plan) (h : History) (v w : Kept) (x : Result (Unit {0}) NoMemory) →
     OnOk x (w ≡ record v { operations = v.operations ++ fresh_operation (begun_by r p h) ∷ [] }) → OnErr x (w ≡ v) → OthersWait r.req.0 v w
 others-wait-ever r p h v w (Ok u) e f = subst (OthersWait r.req.0 v) (sym e) (others-wait r p h v)
 others-wait-ever r p h v w (Err u) e f = subst (OthersWait r.req.0 v) (sym f) (λ n k. refl)

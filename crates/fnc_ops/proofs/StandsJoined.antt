@@ -3,9 +3,8 @@ use Rattle.std.proofs.Common.{ℕ, List, [], ◌∷◌, ◌++◌, Bool, true, fa
 use Rattle.std.proofs.lemmas.Bool.Decides.{nat_tests}
 use Rattle.std.specs.Prelude.{filter, filter_map}
 use Rattle.std.specs.List.{AllZip, AllByRecursion, position_or_len}
-use Rattle.fnc_journal.specs.declared.entry.Kind.{Kind}
 use Rattle.fnc_journal.specs.declared.entry.Req.{Req}
-use Rattle.fnc_journal.specs.declared.entry.Scope.{Scope}
+use Rattle.fnc_journal.specs.declared.event.Request.{Request}
 use Rattle.fnc_journal.specs.History.{History}
 use Rattle.fnc_journal.specs.Missing.{has_any}
 use Rattle.fnc_journal.specs.Found.{asks, is_answered}
@@ -89,47 +88,47 @@ has_any-append [] x = refl
 has_any-append (y ∷ ys) x = refl
 
 -- a request of the next number joins an operation that is open
-module _ (h : History) (l : Lawful h) (m : ℕ) (req lead : Req) (client : List ℕ) (kind : Kind) (target : List ℕ) (total coin : ℕ) (scope : Scope) (next : req.0 ≡ asks h) (open_lead : is_open lead.0 h ≡ true) where
+module _ (h : History) (l : Lawful h) (m : ℕ) (q : Request) (next : q.req.0 ≡ asks h) (open_lead : is_open q.lead.0 h ≡ true) where
   abbrev after : History
-  after = ask_entry m req lead client kind target total coin scope ∷ h
+  after = ask_entry m q ∷ h
 
   -- an operation that is open was asked earlier
-  earlier : lead.0 < asks h
-  earlier = go (nat_lt lead.0 (asks h)) refl
+  earlier : q.lead.0 < asks h
+  earlier = go (nat_lt q.lead.0 (asks h)) refl
     where
-      go : (b : Bool) → nat_lt lead.0 (asks h) ≡ b → lead.0 < asks h
+      go : (b : Bool) → nat_lt q.lead.0 (asks h) ≡ b → q.lead.0 < asks h
       go true e = grind (arith, nat_tests, e)
       go false e =
-          let late : asks h ≤ lead.0 = grind (arith, nat_tests, e) in
-          let none : requests lead.0 h ≡ [] = unasked_unrequested h l lead.0 late in
-          let closed : is_open lead.0 h ≡ false = rw none refl in
-          absurd (true-false (is_open lead.0 h) open_lead closed)
+          let late : asks h ≤ q.lead.0 = grind (arith, nat_tests, e) in
+          let none : requests q.lead.0 h ≡ [] = unasked_unrequested h l q.lead.0 late in
+          let closed : is_open q.lead.0 h ≡ false = rw none refl in
+          absurd (true-false (is_open q.lead.0 h) open_lead closed)
 
-  other-lead : (req.0 == lead.0) ≡ false
-  other-lead = let small : lead.0 < asks h = earlier in ne_eqb req.0 lead.0 (λ g. omega (arith, g, small, next))
+  other-lead : (q.req.0 == q.lead.0) ≡ false
+  other-lead = let small : q.lead.0 < asks h = earlier in ne_eqb q.req.0 q.lead.0 (λ g. omega (arith, g, small, next))
 
   -- it waits for the operation that it joins
-  pub unanswered-lead : unanswered lead.0 after ≡ unanswered lead.0 h ++ req.0 ∷ []
+  pub unanswered-lead : unanswered q.lead.0 after ≡ unanswered q.lead.0 h ++ q.req.0 ∷ []
   unanswered-lead =
-      let same : (lead.0 == lead.0) ≡ true = eq-eqb lead.0 lead.0 refl in
-      let waits : is_answered req.0 h ≡ false = unasked_unanswered h l req.0 (omega (arith, next)) in
-      rw same (filter-append (λ r. not (is_answered r h)) (requests lead.0 h) req.0 (ap not waits))
+      let same : (q.lead.0 == q.lead.0) ≡ true = eq-eqb q.lead.0 q.lead.0 refl in
+      let waits : is_answered q.req.0 h ≡ false = unasked_unanswered h l q.req.0 (omega (arith, next)) in
+      rw same (filter-append (λ r. not (is_answered r h)) (requests q.lead.0 h) q.req.0 (ap not waits))
 
   -- and for no other
-  pub unanswered-other : (o : ℕ) → (o == lead.0) ≡ false → unanswered o after ≡ unanswered o h
+  pub unanswered-other : (o : ℕ) → (o == q.lead.0) ≡ false → unanswered o after ≡ unanswered o h
   unanswered-other o e = rw e refl
 
   same-open : (o : ℕ) → is_open o after ≡ is_open o h
-  same-open o = go (o == lead.0) refl
+  same-open o = go (o == q.lead.0) refl
     where
-      go : (b : Bool) → (o == lead.0) ≡ b → is_open o after ≡ is_open o h
+      go : (b : Bool) → (o == q.lead.0) ≡ b → is_open o after ≡ is_open o h
       go true e =
-          let same : o ≡ lead.0 = eqb-true o lead.0 e in
-          let now : is_open lead.0 after ≡ true = ap has_any unanswered-lead ∙ has_any-append (unanswered lead.0 h) req.0 in
+          let same : o ≡ q.lead.0 = eqb-true o q.lead.0 e in
+          let now : is_open q.lead.0 after ≡ true = ap has_any unanswered-lead ∙ has_any-append (unanswered q.lead.0 h) q.req.0 in
           ap (λ n. is_open n after) same ∙ now ∙ sym (ap (λ n. is_open n h) same ∙ open_lead)
       go false e = ap has_any (unanswered-other o e)
 
-  same-operation : (o : ℕ) → (o == req.0) ≡ false → operation o after ≡ operation o h
+  same-operation : (o : ℕ) → (o == q.req.0) ≡ false → operation o after ≡ operation o h
   same-operation o e = rw e refl
 
   -- the same operations are open
@@ -137,44 +136,44 @@ module _ (h : History) (l : Lawful h) (m : ℕ) (req lead : Req) (client : List 
   open-joined =
       ap (λ os. filter_map (λ o. operation o after) (filter (λ o. is_open o after) os)) listed
       ∙ ap (filter_map (λ o. operation o after)) (filter-same _ _ (operations h) (everywhere (λ o. is_open o after ≡ is_open o h) (operations h) same-open))
-      ∙ filter_map-same _ _ (filter (λ o. is_open o h) (operations h)) (each-filter _ (λ o. is_open o h) (operations h) (each-map _ _ (operations h) (λ o k. same-operation o (ne_eqb o req.0 (λ g. omega (arith, k, next, g)))) (operations-small h l)))
+      ∙ filter_map-same _ _ (filter (λ o. is_open o h) (operations h)) (each-filter _ (λ o. is_open o h) (operations h) (each-map _ _ (operations h) (λ o k. same-operation o (ne_eqb o q.req.0 (λ g. omega (arith, k, next, g)))) (operations-small h l)))
     where
       listed : operations after ≡ operations h
       listed = rw other-lead refl
 
-  joined-one : (r : KeptOperation) (o : Operation) → o.req ≡ lead.0 → Stands h r o → Stands after (with_member req r) o
+  joined-one : (r : KeptOperation) (o : Operation) → o.req ≡ q.lead.0 → Stands h r o → Stands after (with_member q.req r) o
   joined-one r o same s =
-      let now : unanswered o.req after ≡ unanswered o.req h ++ req.0 ∷ [] = subst (λ n. unanswered n after ≡ unanswered n h ++ req.0 ∷ []) (sym same) unanswered-lead in
+      let now : unanswered o.req after ≡ unanswered o.req h ++ q.req.0 ∷ [] = subst (λ n. unanswered n after ≡ unanswered n h ++ q.req.0 ∷ []) (sym same) unanswered-lead in
       record {
-        operation = operation-members r.moment (acts o.req h) r o (r.members ++ req ∷ []) s.operation;
-        waiting_are = numbers-append r.members req ∙ ap (λ ns. ns ++ req.0 ∷ []) s.waiting_are ∙ sym now;
+        operation = operation-members r.moment (acts o.req h) r o (r.members ++ q.req ∷ []) s.operation;
+        waiting_are = numbers-append r.members q.req ∙ ap (λ ns. ns ++ q.req.0 ∷ []) s.waiting_are ∙ sym now;
         confirmed_is = s.confirmed_is;
         untried_is = s.untried_is;
         enough = s.enough;
       }
 
-  joined-other : (r : KeptOperation) (o : Operation) → (o.req == lead.0) ≡ false → Stands h r o → Stands after r o
+  joined-other : (r : KeptOperation) (o : Operation) → (o.req == q.lead.0) ≡ false → Stands h r o → Stands after r o
   joined-other r o e s = record { operation = s.operation; waiting_are = s.waiting_are ∙ sym (unanswered-other o.req e); confirmed_is = s.confirmed_is; untried_is = s.untried_is; enough = s.enough }
 
-  others : (rs : List KeptOperation) (os : List Operation) → AllByRecursion (λ (o : Operation). (o.req == lead.0) ≡ false) os → AllZip (Stands h) rs os → AllZip (Stands after) rs os
+  others : (rs : List KeptOperation) (os : List Operation) → AllByRecursion (λ (o : Operation). (o.req == q.lead.0) ≡ false) os → AllZip (Stands h) rs os → AllZip (Stands after) rs os
   others [] [] a z = tt
   others [] (o ∷ os) a z = absurd z
   others (r ∷ rs) [] a z = absurd z
   others (r ∷ rs) (o ∷ os) a z = (joined-other r o a.0 z.0, others rs os a.1 z.1)
 
-  joined-each : (rs : List KeptOperation) (os : List Operation) → AreApart number_of os → AllZip (Stands h) rs os → AllZip (Stands after) (joined lead.0 req rs) os
+  joined-each : (rs : List KeptOperation) (os : List Operation) → AreApart number_of os → AllZip (Stands h) rs os → AllZip (Stands after) (joined q.lead.0 q.req rs) os
   joined-each [] [] d z = tt
   joined-each [] (o ∷ os) d z = absurd z
   joined-each (r ∷ rs) [] d z = absurd z
   joined-each (r ∷ rs) (o ∷ os) d z =
-      let same : (r.req == lead.0) ≡ (o.req == lead.0) = ap (λ n. n == lead.0) z.0.operation.req in
-      subst (λ b. AllZip (Stands after) (cond b (with_member req r ∷ rs) (r ∷ joined lead.0 req rs)) (o ∷ os)) (sym same) (go (o.req == lead.0) refl (joined-each rs os d.1 z.1))
+      let same : (r.req == q.lead.0) ≡ (o.req == q.lead.0) = ap (λ n. n == q.lead.0) z.0.operation.req in
+      subst (λ b. AllZip (Stands after) (cond b (with_member q.req r ∷ rs) (r ∷ joined q.lead.0 q.req rs)) (o ∷ os)) (sym same) (go (o.req == q.lead.0) refl (joined-each rs os d.1 z.1))
     where
-      go : (b : Bool) → (o.req == lead.0) ≡ b → AllZip (Stands after) (joined lead.0 req rs) os → AllZip (Stands after) (cond b (with_member req r ∷ rs) (r ∷ joined lead.0 req rs)) (o ∷ os)
+      go : (b : Bool) → (o.req == q.lead.0) ≡ b → AllZip (Stands after) (joined q.lead.0 q.req rs) os → AllZip (Stands after) (cond b (with_member q.req r ∷ rs) (r ∷ joined q.lead.0 q.req rs)) (o ∷ os)
       go true e ih =
-          let here : o.req ≡ lead.0 = eqb-true o.req lead.0 e in
+          let here : o.req ≡ q.lead.0 = eqb-true o.req q.lead.0 e in
           (joined-one r o here z.0, others rs os (subst (λ n. AllByRecursion (λ (p : Operation). (p.req == n) ≡ false) os) here d.0) z.1)
       go false e ih = (joined-other r o e z.0, ih)
 
-  pub stands-joined : (rs : List KeptOperation) → StandEach rs h → StandEach (joined lead.0 req rs) after
-  stands-joined rs z = subst (λ os. AllZip (Stands after) (joined lead.0 req rs) os) (sym open-joined) (joined-each rs (open_operations h) (open-apart h l) z)
+  pub stands-joined : (rs : List KeptOperation) → StandEach rs h → StandEach (joined q.lead.0 q.req rs) after
+  stands-joined rs z = subst (λ os. AllZip (Stands after) (joined q.lead.0 q.req rs) os) (sym open-joined) (joined-each rs (open_operations h) (open-apart h l) z)

@@ -2,10 +2,7 @@
 use Rattle.std.proofs.Common.{ℕ, List, [], ◌∷◌, Bool, true, false, ◌≡◌, ◌==◌, refl, ap, sym, ◌∙◌, subst, Option, Some, None, cond, not, is_some, map, eqb-true}
 use Rattle.std.specs.Prelude.{find, option_and_then, unwrap_or}
 use Rattle.std.specs.List.{AllZip, AllByRecursion}
-use Rattle.fnc_journal.specs.declared.entry.Kind.{Kind}
-use Rattle.fnc_journal.specs.declared.entry.Reg.{Reg}
-use Rattle.fnc_journal.specs.declared.entry.Req.{Req}
-use Rattle.fnc_journal.specs.declared.entry.Run.{Run}
+use Rattle.fnc_journal.specs.declared.event.Start.{Start}
 use Rattle.fnc_journal.specs.declared.entry.Slot.{Slot}
 use Rattle.fnc_journal.specs.History.{History}
 use Rattle.fnc_journal.specs.Slots.{Task, Operation, Rank, queries}
@@ -102,15 +99,15 @@ module _ (o : Operation) (m run : ℕ) (s : Slot) (xs : List Act) (r : KeptOpera
   due-begun b = due-same o m begun m xs b refl queries-begun ranks-begun
 
 -- in the journal
-module _ (h : History) (m : ℕ) (run : Run) (req : Req) (slot : Slot) (reg : Reg) (kind : Kind) (attempt : ℕ) where
+module _ (h : History) (m : ℕ) (start : Start) where
   abbrev after : History
-  after = start_entry m run req slot reg kind attempt ∷ h
+  after = start_entry m start ∷ h
 
   due-started : (r : KeptOperation) (o : Operation) → IsAt h m r o → is_due after m o ≡ is_due h m o
-  due-started r o k = go (o.req == req.0)
+  due-started r o k = go (o.req == start.req.0)
     where
-      go : (b : Bool) → is_some (due o m (is_confirmed o h) (cons_act (cond b (Some (Act.Begun m run.0 slot)) None) (acts o.req h))) ≡ is_due h m o
-      go true = ap is_some (due-begun o m run.0 slot (acts o.req h) r (operation-at h m r o k.stands k.at) (is_confirmed o h))
+      go : (b : Bool) → is_some (due o m (is_confirmed o h) (cons_act (cond b (Some (Act.Begun m start.run.0 start.slot)) None) (acts o.req h))) ≡ is_due h m o
+      go true = ap is_some (due-begun o m start.run.0 start.slot (acts o.req h) r (operation-at h m r o k.stands k.at) (is_confirmed o h))
       go false = refl
 
   -- no answer becomes due
@@ -118,36 +115,36 @@ module _ (h : History) (m : ℕ) (run : Run) (req : Req) (slot : Slot) (reg : Re
   settled-started rs z a s =
       ap not (any-same (is_due after m) (is_due h m) (open_operations h) (zip_each (IsAt h m) (λ o. is_due after m o ≡ is_due h m o) due-started rs (open_operations h) (each-at h m rs s a z))) ∙ s
 
-  none-awaited : (t : Task) → t.slot ≡ slot → (r : KeptOperation) (o : Operation) → IsAt h m r o → (o.req == req.0) ≡ true → stands_at h m o ≡ Some t → try_of after m o ≡ None
+  none-awaited : (t : Task) → t.slot ≡ start.slot → (r : KeptOperation) (o : Operation) → IsAt h m r o → (o.req == start.req.0) ≡ true → stands_at h m o ≡ Some t → try_of after m o ≡ None
   none-awaited t e r o k n f =
-      let more : acts o.req after ≡ Act.Begun m run.0 slot ∷ acts o.req h = acts-start o.req m run req slot reg kind attempt h n in
-      let stands : stands_at after m o ≡ Some t = ap (Standing.standing o m) more ∙ standing-begun o m run.0 slot (acts o.req h) r (operation-at h m r o k.stands k.at) ∙ f in
-      let self : same_slot t.slot slot ≡ true = ap (same_slot t.slot) (sym e) ∙ same_slot-self t.slot in
-      let alive : last_run t.slot (Act.Begun m run.0 slot ∷ acts o.req h) ≡ Last.Alive run.0 = ap (λ b. unwrap_or (cond b (Some (Last.Alive run.0)) None) (last_run t.slot (acts o.req h))) self in
-      let unready : ready o m (acts o.req after) t ≡ None = ap (λ xs. ready o m xs t) more ∙ ap (ready_after o m (Act.Begun m run.0 slot ∷ acts o.req h) t) alive in
+      let more : acts o.req after ≡ Act.Begun m start.run.0 start.slot ∷ acts o.req h = acts-start o.req m start h n in
+      let stands : stands_at after m o ≡ Some t = ap (Standing.standing o m) more ∙ standing-begun o m start.run.0 start.slot (acts o.req h) r (operation-at h m r o k.stands k.at) ∙ f in
+      let self : same_slot t.slot start.slot ≡ true = ap (same_slot t.slot) (sym e) ∙ same_slot-self t.slot in
+      let alive : last_run t.slot (Act.Begun m start.run.0 start.slot ∷ acts o.req h) ≡ Last.Alive start.run.0 = ap (λ b. unwrap_or (cond b (Some (Last.Alive start.run.0)) None) (last_run t.slot (acts o.req h))) self in
+      let unready : ready o m (acts o.req after) t ≡ None = ap (λ xs. ready o m xs t) more ∙ ap (ready_after o m (Act.Begun m start.run.0 start.slot ∷ acts o.req h) t) alive in
       ap (try_at after m o) stands ∙ ap (try_ready t) unready
 
-  each-none : (y : Try) → y.task.slot ≡ slot → (rs : List KeptOperation) (os : List Operation) → AllZip (IsAt h m) rs os → AllByRecursion (λ o. (o.req == req.0) ≡ true → try_of h m o ≡ Some y) os →
-      AllByRecursion (λ o. (o.req == req.0) ≡ true → try_of after m o ≡ None) os
+  each-none : (y : Try) → y.task.slot ≡ start.slot → (rs : List KeptOperation) (os : List Operation) → AllZip (IsAt h m) rs os → AllByRecursion (λ o. (o.req == start.req.0) ≡ true → try_of h m o ≡ Some y) os →
+      AllByRecursion (λ o. (o.req == start.req.0) ≡ true → try_of after m o ≡ None) os
   each-none y e [] [] z a = tt
   each-none y e [] (o ∷ os) z a = absurd z
   each-none y e (r ∷ rs) [] z a = absurd z
   each-none y e (r ∷ rs) (o ∷ os) z a = (λ n. none-awaited y.task e r o z.0 n (ready-for h m o y (a.0 n)).stands, each-none y e rs os z.1 a.1)
 
-  waiting-none : (rs : List KeptOperation) (os : List Operation) → AllZip (Stands after) rs os → AreAt m rs → AllByRecursion (λ o. (o.req == req.0) ≡ true → try_of after m o ≡ None) os →
-      OpsRecords.waiting req.0 rs ≡ None
+  waiting-none : (rs : List KeptOperation) (os : List Operation) → AllZip (Stands after) rs os → AreAt m rs → AllByRecursion (λ o. (o.req == start.req.0) ≡ true → try_of after m o ≡ None) os →
+      OpsRecords.waiting start.req.0 rs ≡ None
   waiting-none [] [] z a n = refl
   waiting-none [] (o ∷ os) z a n = absurd z
   waiting-none (r ∷ rs) [] z a n = absurd z
-  waiting-none (r ∷ rs) (o ∷ os) z a n = go (r.req == req.0) refl (waiting-none rs os z.1 a.1 n.1)
+  waiting-none (r ∷ rs) (o ∷ os) z a n = go (r.req == start.req.0) refl (waiting-none rs os z.1 a.1 n.1)
     where
-      go : (b : Bool) → (r.req == req.0) ≡ b → OpsRecords.waiting req.0 rs ≡ None → option_and_then OperationRecords.waiting (cond b (Some r) (find (is_of req.0) rs)) ≡ None
-      go true e ih = waits-none after m r o z.0 a.0 (n.0 (sym (ap (λ k. k == req.0) z.0.operation.req) ∙ e))
+      go : (b : Bool) → (r.req == start.req.0) ≡ b → OpsRecords.waiting start.req.0 rs ≡ None → option_and_then OperationRecords.waiting (cond b (Some r) (find (is_of start.req.0) rs)) ≡ None
+      go true e ih = waits-none after m r o z.0 a.0 (n.0 (sym (ap (λ k. k == start.req.0) z.0.operation.req) ∙ e))
       go false e ih = ih
 
   -- the operation waits for no try
-  pub waits-started : (y : Try) → y.task.slot ≡ slot → AwaitsTry h m req.0 y → settled h m ≡ true → (rs : List KeptOperation) → StandEach rs h → AreAt m rs →
-      StandEach (map (only req.0 (start_standing m)) rs) after → OpsRecords.waiting req.0 (map (only req.0 (start_standing m)) rs) ≡ None
+  pub waits-started : (y : Try) → y.task.slot ≡ start.slot → AwaitsTry h m start.req.0 y → settled h m ≡ true → (rs : List KeptOperation) → StandEach rs h → AreAt m rs →
+      StandEach (map (only start.req.0 (start_standing m)) rs) after → OpsRecords.waiting start.req.0 (map (only start.req.0 (start_standing m)) rs) ≡ None
   waits-started y e w s rs z a n =
-      waiting-none (map (only req.0 (start_standing m)) rs) (open_operations h) n (at-started m req.0 rs a)
-      (each-none y e rs (open_operations h) (each-at h m rs s a z) (each-awaits h m req.0 y w))
+      waiting-none (map (only start.req.0 (start_standing m)) rs) (open_operations h) n (at-started m start.req.0 rs a)
+      (each-none y e rs (open_operations h) (each-at h m rs s a z) (each-awaits h m start.req.0 y w))

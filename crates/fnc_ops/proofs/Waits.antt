@@ -5,7 +5,8 @@ use Rattle.std.specs.Prelude.{filter, find, option_and_then, bytes_eq}
 use Rattle.std.specs.List.{AllZip, AllByRecursion}
 use Rattle.fnc_journal.specs.declared.entry.Exit.{Exit}
 use Rattle.fnc_journal.specs.declared.entry.Slot.{Slot}
-use Rattle.fnc_ops.specs.declared.run_start.RunStart.{RunStart}
+use Rattle.fnc_journal.specs.declared.event.Ended.{Ended}
+use Rattle.fnc_journal.specs.declared.event.Start.{Start}
 use Rattle.fnc_ops.specs.declared.slot.SlotRecord.{SlotRecord}
 use Rattle.fnc_ops.specs.KeptOperation.{KeptOperation}
 use Rattle.fnc_ops.specs.OperationRecords as OperationRecords
@@ -140,10 +141,12 @@ ended-req slot exit listed m r = req-ranked m (record r { levels = map (level_en
 ended-moment : (slot : Slot) (exit : Exit) (listed : Bool) (m : ℕ) (r : KeptOperation) → (operation_ended slot exit listed m r).moment ≡ r.moment
 ended-moment slot exit listed m r = moment-ranked m (record r { levels = map (level_ended slot exit listed r.over m) r.levels })
 
-pub at-ended : (x : Option RunStart) (exit : Exit) (listed : Bool) (m at : ℕ) (rs : List KeptOperation) → AreAt at rs → AreAt at (ended x exit listed m rs)
-at-ended None exit listed m at rs a = a
-at-ended (Some s) exit listed m at rs a =
-    at-map at (only s.req.0 (operation_ended s.slot exit listed m)) (moment-only s.req.0 (operation_ended s.slot exit listed m) (ended-moment s.slot exit listed m)) rs a
+pub at-ended : (x : Option Start) (over : Ended) (m at : ℕ) (rs : List KeptOperation) → AreAt at rs → AreAt at (ended x over m rs)
+at-ended None over m at rs a = a
+at-ended (Some s) over m at rs a =
+    let seen = operation_ended s.slot over.exit over.listed m in
+    at-map at (only s.req.0 seen) (moment-only s.req.0 seen (ended-moment s.slot over.exit over.listed m)) rs a
 
-pub waiting-ended : (s : RunStart) (exit : Exit) (listed : Bool) (m n : ℕ) → (n == s.req.0) ≡ false → (rs : List KeptOperation) → waiting n (ended (Some s) exit listed m rs) ≡ waiting n rs
-waiting-ended s exit listed m n other rs = waiting-only s.req.0 (operation_ended s.slot exit listed m) (ended-req s.slot exit listed m) n other rs
+pub waiting-ended : (s : Start) (over : Ended) (m n : ℕ) → (n == s.req.0) ≡ false → (rs : List KeptOperation) → waiting n (ended (Some s) over m rs) ≡ waiting n rs
+waiting-ended s over m n other rs =
+    waiting-only s.req.0 (operation_ended s.slot over.exit over.listed m) (ended-req s.slot over.exit over.listed m) n other rs

@@ -8,12 +8,9 @@ use Rattle.fnc_ops.specs.KeptOperation.{KeptOperation}
 use Rattle.fnc_ops.specs.Kept.{Kept}
 use Rattle.fnc_ops.specs.SlotRecords.{capped}
 use Rattle.fnc_ops.specs.OperationRecords as OperationRecords
-use Rattle.fnc_journal.specs.declared.event.Event.{Event}
-use Rattle.fnc_journal.specs.declared.entry.Exit.{Exit}
+use Rattle.fnc_journal.specs.declared.event.Ended.{Ended}
+use Rattle.fnc_journal.specs.declared.event.Start.{Start}
 use Rattle.fnc_journal.specs.declared.entry.Req.{Req}
-use Rattle.fnc_journal.specs.History.{History}
-use Rattle.fnc_journal.specs.Found.{first_found}
-use Rattle.fnc_ops.specs.declared.run_start.RunStart.{RunStart}
 use Rattle.fnc_ops.specs.declared.records.Expiry.{Expiry}
 use Rattle.fnc_journal.specs.declared.entry.Kind.{Kind}
 
@@ -69,19 +66,11 @@ replied req os = filter OperationRecords.is_waiting (map (OperationRecords.only 
 abbrev pub started : ℕ → ℕ → Kept → Kept
 started req m v = record { operations = map (OperationRecords.only req (OperationRecords.start_standing m)) v.operations; alive = capped 32 (v.alive + 1) }
 
--- the operation and the slot of a run, as an entry says
-abbrev pub start_here : ℕ → Event → Option RunStart
-start_here n (Event.Start start) = if n == start.run.0 then Some (record { req = start.req; slot = start.slot }) else None
-start_here n _ = None
-
--- as the journal says
-abbrev pub start_of : ℕ → History → Option RunStart
-start_of n h = first_found (λ e. start_here n e.event) h
-
 -- after the exit of a run that was started so
-abbrev pub ended : Option RunStart → Exit → Bool → ℕ → List KeptOperation → List KeptOperation
-ended None exit listed m os = os
-ended (Some s) exit listed m os = map (OperationRecords.only s.req.0 (OperationRecords.operation_ended s.slot exit listed m)) os
+abbrev pub ended : Option Start → Ended → ℕ → List KeptOperation → List KeptOperation
+ended None over m os = os
+ended (Some s) over m os =
+    map (OperationRecords.only s.req.0 (OperationRecords.operation_ended s.slot over.exit over.listed m)) os
 
 -- an operation whose standing slot has come to its action's end
 abbrev pub expiry_by : KeptOperation → Option ℕ → Option Expiry

@@ -2,13 +2,13 @@
 use Rattle.std.specs.Prelude.{ℕ, List, ◌≡◌, ◌==◌, Bool, true, map, find, Option, Some, None, option_map, option_and_then, [], ◌∷◌, ◌≤◌, nat_lt, if◌then◌else◌, length, ◌+◌}
 use Rattle.std.specs.List.{AllZip, AllByRecursion}
 use Rattle.fnc_journal.specs.declared.entry.Entry.{Entry}
+use Rattle.fnc_journal.specs.declared.event.Confirmation.{Confirmation}
+use Rattle.fnc_journal.specs.declared.event.Ended.{Ended}
 use Rattle.fnc_journal.specs.declared.event.Event.{Event}
-use Rattle.fnc_journal.specs.declared.entry.Kind.{Kind}
-use Rattle.fnc_journal.specs.declared.entry.Reg.{Reg}
+use Rattle.fnc_journal.specs.declared.event.Request.{Request}
+use Rattle.fnc_journal.specs.declared.event.Start.{Start}
 use Rattle.fnc_journal.specs.declared.entry.Req.{Req}
-use Rattle.fnc_journal.specs.declared.entry.Run.{Run}
 use Rattle.fnc_journal.specs.declared.entry.Scope.{Scope}
-use Rattle.fnc_journal.specs.declared.entry.Slot.{Slot}
 use Rattle.fnc_journal.specs.declared.plan.PlanLevel.{PlanLevel}
 use Rattle.fnc_journal.specs.Bounds.{IsBounded}
 use Rattle.fnc_journal.specs.History.{History}
@@ -23,6 +23,7 @@ use Rattle.fnc_journal.specs.Startable.{alive_runs}
 use Rattle.fnc_journal.specs.Operations.{open_operations, unanswered, stands_at, due_to}
 use Rattle.fnc_ops.specs.declared.operation.Standing.{Standing}
 use Rattle.fnc_ops.specs.declared.ops.Due.{Due}
+use Rattle.fnc_ops.specs.declared.ops.Operation.{Operation as Begun}
 use Rattle.fnc_ops.specs.KeptOperation.{KeptOperation}
 use Rattle.fnc_ops.specs.Kept.{Kept}
 use Rattle.fnc_ops.specs.OperationFacts.{IsOperation, IsStanding, left_levels}
@@ -82,16 +83,16 @@ abbrev pub AreFewDevices : List PlanLevel → Type 0
 AreFewDevices ls = AllByRecursion (λ l. length l.devices ≤ 8) ls
 
 -- the entry of a start
-abbrev pub start_entry : ℕ → Run → Req → Slot → Reg → Kind → ℕ → Entry
-start_entry m run req slot reg kind attempt = record { moment = m; event = Event.Start (record { run = run; req = req; slot = slot; reg = reg; kind = kind; attempt = attempt }) }
+abbrev pub start_entry : ℕ → Start → Entry
+start_entry m start = record { moment = m; event = Event.Start start }
 
 -- the entry of an operator's word
-abbrev pub confirm_entry : ℕ → List ℕ → List ℕ → Entry
-confirm_entry m client target = record { moment = m; event = Event.Confirm (record { client = client; target = target }) }
+abbrev pub confirm_entry : ℕ → Confirmation → Entry
+confirm_entry m confirmation = record { moment = m; event = Event.Confirm confirmation }
 
 -- the entry of an exit
-abbrev pub exit_entry : ℕ → Run → Exit → Bool → Entry
-exit_entry m run exit listed = record { moment = m; event = Event.Exit (record { run = run; exit = exit; listed = listed }) }
+abbrev pub exit_entry : ℕ → Ended → Entry
+exit_entry m ended = record { moment = m; event = Event.Exit ended }
 
 -- the entry of a reply
 abbrev pub reply_entry : ℕ → Req → Answer → Entry
@@ -140,6 +141,10 @@ pub record Try : Type 0 where
   pub task : Task
   pub ready : ℕ
 
+-- a start, of the slot of this try
+abbrev pub of_try : Try → Start → Start
+of_try y start = record start { slot = y.task.slot }
+
 -- of a slot, where its next try is ready from some moment on
 abbrev pub try_ready : Task → Option ℕ → Option Try
 try_ready t None = None
@@ -181,8 +186,21 @@ abbrev pub AreBounded : History → Type 0
 AreBounded h = (n : ℕ) (r : Registration) → registration n h ≡ Some r → IsBounded r.definition
 
 -- the entry of a request
-abbrev pub ask_entry : ℕ → Req → Req → List ℕ → Kind → List ℕ → ℕ → ℕ → Scope → Entry
-ask_entry m req lead client kind target total coin scope = record { moment = m; event = Event.Ask (record { req = req; lead = lead; client = client; kind = kind; target = target; total = total; coin = coin; scope = scope }) }
+abbrev pub ask_entry : ℕ → Request → Entry
+ask_entry m request = record { moment = m; event = Event.Ask request }
+
+-- the request that begins an operation, of a client and with a scope
+abbrev pub begun_request : Begun → List ℕ → Scope → Request
+begun_request begun client scope = record {
+  req = begun.req;
+  lead = begun.req;
+  client = client;
+  kind = begun.kind;
+  target = begun.target;
+  total = begun.total;
+  coin = begun.coin;
+  scope = scope;
+}
 
 -- how many records speak at an earlier moment
 abbrev pub behind : ℕ → List KeptOperation → ℕ

@@ -9,7 +9,6 @@ mod operation;
 mod ops;
 mod planned;
 mod records;
-mod run_start;
 mod slot;
 
 pub use operation::Standing;

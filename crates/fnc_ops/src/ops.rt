@@ -1,14 +1,15 @@
 // The records of all operations that are open.
 
 ghost use Rattle.std.specs.Prelude.{◌≡◌, ◌∷◌, [], ◌<◌, ◌≤◌, ◌+◌, ◌-◌, ◌++◌, ◌^◌, ◌==◌, ℕ, List, length, map, find, option_map, true, false, Some, None, OnOk, OnErr, slice_get};
+ghost use Rattle.std.specs.Option.{option_copied};
 ghost use Rattle.fnc_journal.specs.History.{History};
 ghost use Rattle.fnc_journal.specs.Operations as Operations;
 ghost use Rattle.fnc_ops.specs.OperationRecords as OperationRecords;
 ghost use Rattle.fnc_ops.specs.OpsRecords as OpsRecords;
-ghost use Rattle.fnc_ops.specs.Stands.{StandsFor, AreAt, AreBy, AreBounded, AreFewDevices, first_ended, IsStandingOf, IsTryOf, Try, AwaitsTry, IsFirstDue, behind, ask_entry, start_entry, exit_entry, reply_entry, confirm_entry, next_of};
+ghost use Rattle.fnc_ops.specs.Stands.{StandsFor, AreAt, AreBy, AreBounded, AreFewDevices, first_ended, IsStandingOf, IsTryOf, Try, AwaitsTry, IsFirstDue, behind, ask_entry, begun_request, start_entry, exit_entry, reply_entry, confirm_entry, next_of};
 ghost use Rattle.fnc_ops.specs.OpsRecords.{OthersWait, AllWait};
 ghost use Rattle.fnc_journal.specs.Found as Found;
-ghost use Rattle.fnc_journal.specs.Found.{Started, starts, asks};
+ghost use Rattle.fnc_journal.specs.Found.{starts, asks};
 ghost use Rattle.fnc_journal.specs.Plan as Planned;
 ghost use Rattle.fnc_ops.specs.FreshRecords.{wanted_by};
 ghost use Rattle.fnc_journal.specs.Owed as Owed;
@@ -22,8 +23,9 @@ use crate::records::{
     first_due, first_expired, first_member, join, joinable, keep_waiting, owed_with, see_confirm,
     see_exit, see_moment, see_moment_of, see_reply, see_start, standing_of, waiting_of,
 };
-use crate::run_start::{RunStart, start_of};
-use fnc_journal::{Answer, Exit, Journal, Kind, NoMemory, Plan, Reg, Req, Run, Scope, Slot, Text};
+use fnc_journal::{
+    Answer, Confirmation, Ended, Journal, Kind, NoMemory, Plan, Req, Request, Start, Text,
+};
 use std::alloc::Global;
 use std::marker::Model;
 
@@ -143,9 +145,9 @@ impl Ops {
 
     /// A request joins an open operation.
     pub fn join(&mut self, operation: Req, req: Req) -> Result<(), NoMemory>
-        ensures ok { (h : History) (moment : ℕ) (client : List ℕ) (kind : Kind) (target : List ℕ) (total coin : ℕ) (scope : Scope) →
+        ensures ok { (h : History) (moment : ℕ) (request : Request) → request.req ≡ req → request.lead ≡ operation →
             Lawful h → StandsFor self.old h → req.0 ≡ asks h → is_open operation.0 h ≡ true →
-            OnOk result (StandsFor self.new (ask_entry moment req operation client kind target total coin scope ∷ h)) }
+            OnOk result (StandsFor self.new (ask_entry moment request ∷ h)) }
         ensures at { (moment : ℕ) → AreAt moment self.old.operations → AreAt moment self.new.operations }
         ensures waits { AllWait self.old self.new }
         ensures err { OnErr result (self.new ≡ self.old) }
@@ -180,8 +182,8 @@ impl Ops {
         requires few_candidates { length plan.candidates ≤ 128 }
         requires few_levels { length plan.levels ≤ 9 }
         requires few_devices { AreFewDevices plan.levels }
-        ensures ok { (client : List ℕ) → OnOk result (StandsFor self.new
-            (ask_entry operation.moment operation.req operation.req client operation.kind operation.target operation.total operation.coin plan.scope ∷ journal.now.history)) }
+        ensures ok { (client : List ℕ) →
+            OnOk result (StandsFor self.new (ask_entry operation.moment (begun_request operation client plan.scope) ∷ journal.now.history)) }
         ensures at { OnOk result (AreAt operation.moment self.new.operations) }
         ensures others { OthersWait operation.req.0 self.old self.new }
         ensures err { OnErr result (self.new ≡ self.old) }
@@ -261,25 +263,25 @@ impl Ops {
     }
 
     /// A run of an operation was started, of the slot at which that stands.
-    pub fn started(&mut self, journal: &Journal, operation: Req, run: Run, moment: u64)
+    pub fn started(&mut self, journal: &Journal, start: &Start, moment: u64)
         requires stands { StandsFor self.old journal.now.history }
         requires at { AreAt moment self.old.operations }
         requires lawful { Lawful journal.now.history }
-        requires number { run.0 ≡ starts journal.now.history }
+        requires number { start.now.run.0 ≡ starts journal.now.history }
         requires early { moment ≤ 10 ^ 15 }
         requires few { length journal.now.history + 1 < 2 ^ 32 }
         requires settled { settled journal.now.history moment ≡ true }
-        ensures stands { (y : Try) (reg : Reg) (kind : Kind) (attempt : ℕ) → AwaitsTry journal.now.history moment operation.0 y →
-            StandsFor self.new (start_entry moment run operation y.task.slot reg kind attempt ∷ journal.now.history) }
+        ensures stands { (y : Try) → AwaitsTry journal.now.history moment start.now.req.0 y → start.now.slot ≡ y.task.slot →
+            StandsFor self.new (start_entry moment start.now ∷ journal.now.history) }
         ensures at { AreAt moment self.new.operations }
-        ensures settled { (slot : Slot) (reg : Reg) (kind : Kind) (attempt : ℕ) →
-            settled (start_entry moment run operation slot reg kind attempt ∷ journal.now.history) moment ≡ true }
-        ensures waits { (y : Try) → AwaitsTry journal.now.history moment operation.0 y → OpsRecords.waiting operation.0 self.new.operations ≡ None }
-        ensures others { OthersWait operation.0 self.old self.new }
-        ensures owes { (y : Try) (reg : Reg) (kind : Kind) (attempt : ℕ) → AwaitsTry journal.now.history moment operation.0 y →
-            Owed.owed (start_entry moment run operation y.task.slot reg kind attempt ∷ journal.now.history) + 1 ≡ Owed.owed journal.now.history }
+        ensures settled { settled (start_entry moment start.now ∷ journal.now.history) moment ≡ true }
+        ensures waits { (y : Try) → AwaitsTry journal.now.history moment start.now.req.0 y →
+            OpsRecords.waiting start.now.req.0 self.new.operations ≡ None }
+        ensures others { OthersWait start.now.req.0 self.old self.new }
+        ensures owes { (y : Try) → AwaitsTry journal.now.history moment start.now.req.0 y → start.now.slot ≡ y.task.slot →
+            Owed.owed (start_entry moment start.now ∷ journal.now.history) + 1 ≡ Owed.owed journal.now.history }
     {
-        self.kept_started(operation, moment);
+        self.kept_started(start.req, moment);
     }
 
     fn kept_confirmed(&mut self, target: &str)
@@ -291,36 +293,47 @@ impl Ops {
     /// An operator said that a target is down: of its operations that are open this is known from now on.
     pub fn confirm(&mut self, journal: &Journal, target: &str)
         requires stands { StandsFor self.old journal.now.history }
-        ensures stands { (moment : ℕ) (client : List ℕ) → StandsFor self.new (confirm_entry moment client target.now ∷ journal.now.history) }
+        ensures stands { (moment : ℕ) (word : Confirmation) → word.target ≡ target.now →
+            StandsFor self.new (confirm_entry moment word ∷ journal.now.history) }
         ensures at { (moment : ℕ) → AreAt moment self.old.operations → AreAt moment self.new.operations }
         ensures waits { AllWait self.old self.new }
     {
         self.kept_confirmed(target);
     }
 
-    fn kept_ended(&mut self, start: Option<RunStart>, exit: Exit, listed: bool, moment: u64)
-        ensures { self.new ≡ record { operations = OpsRecords.ended start exit listed moment self.old.operations; alive = self.old.alive - 1 } }
+    fn kept_ended(&mut self, start: Option<&Start>, ended: Ended, moment: u64)
+        ensures { self.new ≡ record {
+          operations = OpsRecords.ended (option_copied start.entry) ended moment self.old.operations;
+          alive = self.old.alive - 1;
+        } }
     {
         self.alive = self.alive.saturating_sub(1);
         if let Some(s) = start {
-            see_exit(&mut self.records, s.req, s.slot, exit, listed, moment);
+            see_exit(
+                &mut self.records,
+                s.req,
+                s.slot,
+                ended.exit,
+                ended.listed,
+                moment,
+            );
         }
     }
 
     /// A run has ended, of an operation that is open or of one that is not.
-    pub fn ended(&mut self, journal: &Journal, run: Run, exit: Exit, listed: bool, moment: u64)
+    pub fn ended(&mut self, journal: &Journal, ended: Ended, moment: u64)
         requires stands { StandsFor self.old journal.now.history }
         requires at { AreAt moment self.old.operations }
         requires lawful { Lawful journal.now.history }
-        requires alive { is_alive run.0 journal.now.history ≡ true }
+        requires alive { is_alive ended.run.0 journal.now.history ≡ true }
         requires few { length journal.now.history + 1 < 2 ^ 32 }
         requires settled { settled journal.now.history moment ≡ true }
-        ensures stands { StandsFor self.new (exit_entry moment run exit listed ∷ journal.now.history) }
+        ensures stands { StandsFor self.new (exit_entry moment ended ∷ journal.now.history) }
         ensures at { AreAt moment self.new.operations }
-        ensures others { (start : Started) → Found.started run.0 journal.now.history ≡ Some start → OthersWait start.req self.old self.new }
+        ensures others { (start : Start) → Found.started ended.run.0 journal.now.history ≡ Some start →
+            OthersWait start.req.0 self.old self.new }
     {
-        let start = start_of(journal, run);
-        self.kept_ended(start, exit, listed, moment);
+        self.kept_ended(journal.start_of(ended.run), ended, moment);
     }
 
     fn kept_member(&self, operation: Req) -> Option<Req>

@@ -5,7 +5,11 @@ ghost use Rattle.std.specs.Prelude.{◌≡◌, IfOk};
 use crate::begin::fresh_operation;
 use crate::operation::OperationRecord;
 use crate::ops::{Operation, Ops};
-use fnc_journal::{Actions, Allowed, Answer, Base, Candidate, Candidates, Definition, Entry, Event, HostCheck, Journal, Kind, Levels, Names, NoMemory, Pairs, Phase, Places, Plan, PlanLevel, Reg, Registered, Registration, Req, Scope, Slot, Text};
+use fnc_journal::{
+    Actions, Allowed, Answer, Base, Candidate, Candidates, Definition, Entry, Event, HostCheck,
+    Journal, Kind, Levels, Names, NoMemory, Pairs, Phase, Places, Plan, PlanLevel, Reg, Registered,
+    Registration, Req, Scope, Slot, Text,
+};
 use std::alloc::Global;
 use std::test::Fail;
 

@@ -10,3 +10,7 @@ WhereTold (Some old) (Some new) P = P old new
 -- where a list is told, the call added these at its end
 abbrev pub Gains : {A : Type 0} → Option (List A) → Option (List A) → List A → Type 0
 Gains before after more = WhereTold before after (λ old new. new ≡ old ++ more)
+
+-- where a list is told, the call left it as it was
+abbrev pub Keeps : {A : Type 0} → Option A → Option A → Type 0
+Keeps before after = WhereTold before after (λ old new. new ≡ old)

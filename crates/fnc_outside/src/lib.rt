@@ -6,6 +6,7 @@
 mod line_buf;
 mod memory_sink;
 mod memory_source;
+mod numbers;
 mod sink;
 mod source;
 #[cfg(test)]

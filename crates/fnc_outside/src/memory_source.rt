@@ -1,7 +1,6 @@
 // A source that gives the lines of a text in memory, for tests.
 
 ghost use Rattle.std.specs.Prelude.{◌≡◌, ◌≢◌, ◌≤◌, ◌↔◌, ◌==◌, ◌++◌, [], Some, IfOk, IsTrue, length, count_by, if◌then◌else◌};
-ghost use Rattle.std.specs.List.{list_any};
 ghost use Rattle.fnc_outside.specs.Faults.{NeverFalls, one_more};
 ghost use Rattle.fnc_outside.specs.Lines as Lines;
 ghost use Rattle.fnc_outside.specs.Polls.{IsPolled, given_by, Leaves, HasCause, Takes};
@@ -9,6 +8,7 @@ ghost use Rattle.fnc_outside.specs.Remembered.{events_of, is_failing};
 ghost use Rattle.fnc_outside.specs.Told.{Gains};
 
 use crate::line_buf::LineBuf;
+use crate::numbers::lists;
 use crate::source::{Polled, Source};
 use fnc_journal::NoMemory;
 use std::alloc::Global;
@@ -50,13 +50,6 @@ impl Model for MemorySource {
     ghost invariant = { λ s.
         (s.at ≤ vec_len s.bytes + 1)
         × (vec_len s.taken + length (lines_of (drop s.at s.bytes.items)) ≤ vec_capacity s.taken) };
-}
-
-/// Whether the number is listed.
-fn lists(numbers: &[u32], number: u64) -> bool
-    ensures { result ≡ list_any (λ listed. listed == number) numbers.now }
-{
-    numbers.iter().any(|listed| u64::from(*listed) == number)
 }
 
 /// How many bytes stand before the first line feed.

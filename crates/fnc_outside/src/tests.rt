@@ -12,6 +12,11 @@ fn put<K: Sink>(sink: &mut K, piece: &[u8]) -> Result<(), SinkFailed> {
     sink.write(piece)
 }
 
+// One flush, through the bound.
+fn send_on<K: Sink>(sink: &mut K) -> Result<(), SinkFailed> {
+    sink.flush()
+}
+
 #[test]
 fn a_source_gives_its_lines(rt: HostRuntime) -> Result<(), Fail> {
     let text = b"ab\n\nabcd\nabc\nx";
@@ -72,5 +77,27 @@ fn a_torn_write_leaves_its_front(rt: HostRuntime) -> Result<(), Fail> {
         assert_eq!(rt; put(&mut sink, piece).is_ok(), works);
         assert_eq!(rt; sink.bytes(), held);
     }
+    Ok(())
+}
+
+#[test]
+fn a_failed_flush_loses_what_was_not_sent_on(rt: HostRuntime) -> Result<(), Fail> {
+    let mut sink = MemorySink::with_failing_flushes(rt.alloc(), 8, &[1, 3])?;
+    let flushes: [(&[u8], bool, &[u8]); 5] = [
+        (b"ab", true, b"ab"),
+        (b"cd", false, b"ab"),
+        (b"ef", true, b"abef"),
+        (b"", false, b"abef"),
+        (b"g", true, b"abefg"),
+    ];
+    for (piece, works, held) in flushes {
+        assert!(rt; put(&mut sink, piece).is_ok());
+        assert_eq!(rt; send_on(&mut sink).is_ok(), works);
+        assert_eq!(rt; sink.bytes(), held);
+        assert_eq!(rt; sink.sent(), held);
+    }
+    assert!(rt; put(&mut sink, b"hi").is_ok());
+    assert_eq!(rt; sink.bytes(), b"abefghi".as_slice());
+    assert_eq!(rt; sink.sent(), b"abefg".as_slice());
     Ok(())
 }

@@ -1,75 +1,100 @@
 // Bytes to a writer.
 
-ghost use Rattle.std.specs.Prelude.{◌≡◌, None, OnOk, OnErr};
-ghost use Rattle.std.specs.Bool.{OnTrue};
+ghost use Rattle.std.specs.Prelude.{◌≡◌, ℕ, List, [], length, None, IfOk, OnOk, OnErr, IsErr};
 ghost use Rattle.std.specs.Io.KnownBytes.{Appends};
-ghost use Rattle.fnc_outside.specs.Faults.{NeverFalls, Rose};
-ghost use Rattle.fnc_outside.specs.Told.{Gains};
-ghost use Rattle.fnc_outside.specs.Writes.{AppendsPart};
+ghost use Rattle.std.specs.Io.KnownBytes as Known;
+ghost use Rattle.fnc_outside.specs.Faults.{NeverFalls, Rose, one_more};
+ghost use Rattle.fnc_outside.specs.Told.{Gains, Keeps};
+ghost use Rattle.fnc_outside.specs.Writes.{AppendsPart, HoldsPart};
 
+use fnc_journal::NoMemory;
 use fnc_outside::{Sink, SinkFailed};
-use std::io::{ErrorKind, Write};
+use std::alloc::Global;
+use std::io::{BufWriter, Write};
 use std::marker::Model;
 
-/// A sink over a writer. Contracts see how many faults it had.
+/// The most bytes that wait before they are written.
+const ROOM: usize = 65_536;
+
+/// A sink over a writer. Bytes that are handed over wait until they fill its room or are flushed.
 #[derive(Drop)]
-pub struct StreamSink<W> {
-    writer: W,
+pub struct StreamSink<W: Write + Drop> {
+    writer: BufWriter<W, Global>,
     faults: u64,
 }
 
-impl<W> Model for StreamSink<W> {
-    ghost use Rattle.std.specs.Prelude.{ℕ, ◌<◌, ◌^◌};
+impl<W: Write + Drop> Model for StreamSink<W> {
+    ghost use Rattle.std.specs.Prelude.{◌<◌, ◌^◌};
+    ghost use Rattle.std.specs.Io.Buffered.{writer_contents, writer_buffer};
+    ghost use Rattle.fnc_streams.specs.Streamed.{Writing};
 
-    ghost Value = { ℕ };
+    ghost Value = { Writing };
 
-    ghost view = { λ s. s.faults };
+    ghost view = { λ s. record {
+      written = writer_contents W.contents s.writer;
+      waiting = writer_buffer s.writer;
+      faults = s.faults;
+    } };
 
     ghost invariant = { λ s. s.faults < 2 ^ 64 };
 }
 
-/// Writes the piece, in as many writes as the writer wants, and flushes it. False where a write or the
-/// flush fails, or a write takes no byte.
-fn write_whole<W: Write>(writer: &mut W, piece: &[u8]) -> bool
-    ensures { OnTrue result (Appends (W.contents writer.old) (W.contents writer.new) piece.now) }
-{
-    let mut rest = piece;
-    for _ in 0..u64::MAX {
-        if rest.is_empty() {
-            return writer.flush().is_ok();
-        }
-        match writer.write(rest) {
-            Ok(0) => return false,
-            Ok(count) => rest = &rest[count..],
-            Err(error) => {
-                if error.kind() != ErrorKind::Interrupted {
-                    return false;
-                }
-            }
-        }
-    }
-    false
-}
-
-impl<W: Write> StreamSink<W> {
-    /// A sink over this writer.
-    pub fn new(writer: W) -> StreamSink<W>
-        ensures { result ≡ 0 }
+impl<W: Write + Drop> StreamSink<W> {
+    /// A sink over this writer, with the memory for what waits.
+    pub fn new(alloc: Global, writer: W) -> Result<StreamSink<W>, NoMemory>
+        ensures waiting { IfOk result (λ s. s.waiting ≡ []) }
+        ensures faults { IfOk result (λ s. s.faults ≡ 0) }
     {
-        StreamSink { writer, faults: 0 }
-    }
-}
-
-impl<W: Write> Sink for StreamSink<W> {
-    ghost held = { λ _. None };
-
-    ghost faults = { λ s. s };
-
-    fn write(&mut self, piece: &[u8]) -> Result<(), SinkFailed> {
-        if write_whole(&mut self.writer, piece) {
-            return Ok(());
+        match BufWriter::with_capacity(alloc, ROOM, writer) {
+            Ok(writer) => Ok(StreamSink { writer, faults: 0 }),
+            Err(_) => Err(NoMemory),
         }
+    }
+
+    /// Counts one more fault.
+    fn fail(&mut self) -> Result<(), SinkFailed>
+        ensures failed { IsErr result }
+        ensures counts { self.new ≡ record self.old { faults = one_more self.old.faults } }
+    {
         self.faults = self.faults.saturating_add(1);
         Err(SinkFailed)
+    }
+}
+
+impl<W: Write + Drop> Sink for StreamSink<W> {
+    ghost held = { λ _. None };
+
+    ghost unsent = { λ s. length s.waiting };
+
+    ghost faults = { λ s. s.faults };
+
+    fn write(&mut self, piece: &[u8]) -> Result<(), SinkFailed>
+        ensures ok { OnOk result (Gains None None piece.now) }
+        ensures err { OnErr result (AppendsPart None None piece.now) }
+        ensures count { NeverFalls self.old.faults self.new.faults }
+        ensures cause { OnErr result (Rose self.old.faults self.new.faults) }
+        // where the writer tells what it holds, that and what waits for it grow by the piece
+        ensures written { OnOk result (Appends self.old.written self.new.written piece.now) }
+    {
+        match self.writer.write_all(piece) {
+            Ok(()) => Ok(()),
+            Err(_) => self.fail(),
+        }
+    }
+
+    fn flush(&mut self) -> Result<(), SinkFailed>
+        ensures ok { OnOk result (Keeps {A = List ℕ} None None) }
+        ensures sent { OnOk result (length self.new.waiting ≡ 0) }
+        ensures err { OnErr result (HoldsPart None None []) }
+        ensures count { NeverFalls self.old.faults self.new.faults }
+        ensures cause { OnErr result (Rose self.old.faults self.new.faults) }
+        // nothing waits, so what was handed over is what the writer holds, where it tells that
+        ensures waiting { OnOk result (self.new.waiting ≡ []) }
+        ensures written { Known.Keeps self.old.written self.new.written }
+    {
+        match self.writer.flush() {
+            Ok(()) => Ok(()),
+            Err(_) => self.fail(),
+        }
     }
 }

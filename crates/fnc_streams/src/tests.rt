@@ -63,6 +63,10 @@ fn put<K: Sink>(sink: &mut K, piece: &[u8]) -> bool {
     sink.write(piece).is_ok()
 }
 
+fn send_on<K: Sink>(sink: &mut K) -> bool {
+    sink.flush().is_ok()
+}
+
 #[test]
 fn lines_come_in_pieces(rt: HostRuntime) -> Result<(), Fail> {
     let pieces: [Result<&[u8], ErrorKind>; 6] = [
@@ -79,12 +83,20 @@ fn lines_come_in_pieces(rt: HostRuntime) -> Result<(), Fail> {
     };
     let mut source = StreamSource::new(rt.alloc(), reader)?;
     let mut line = LineBuf::with_size(rt.alloc(), 4)?;
-    let polls: [(Polled, &[u8]); 8] = [
+    // before each of the seven reads the source says that it may wait
+    let polls: [(Polled, &[u8]); 15] = [
+        (Polled::Again, b""),
+        (Polled::Again, b""),
         (Polled::Line, b"abc"),
+        (Polled::Again, b""),
+        (Polled::Again, b""),
         (Polled::Failed, b""),
+        (Polled::Again, b""),
+        (Polled::Again, b""),
         (Polled::Line, b"def"),
         (Polled::Line, b""),
         (Polled::TooLong, b""),
+        (Polled::Again, b""),
         (Polled::Line, b"z"),
         (Polled::End, b""),
         (Polled::End, b""),
@@ -114,8 +126,15 @@ fn the_longest_line(rt: HostRuntime) -> Result<(), Fail> {
     let mut source = StreamSource::new(rt.alloc(), reader)?;
     let mut line = LineBuf::with_size(rt.alloc(), 65_536)?;
     let polls = [
+        (Polled::Again, 0),
+        (Polled::Again, 0),
         (Polled::Line, 65_536),
+        (Polled::Again, 0),
+        (Polled::Again, 0),
+        (Polled::Again, 0),
         (Polled::TooLong, 0),
+        (Polled::Again, 0),
+        (Polled::Again, 0),
         (Polled::Line, 3),
         (Polled::End, 0),
     ];
@@ -127,18 +146,46 @@ fn the_longest_line(rt: HostRuntime) -> Result<(), Fail> {
 }
 
 #[test]
-fn a_piece_is_written_whole(rt: HostRuntime) -> Result<(), Fail> {
+fn what_was_handed_over_is_written_whole(rt: HostRuntime) -> Result<(), Fail> {
     let mut held = Vec::new(rt.alloc());
     {
-        let mut sink = StreamSink::new(Slow {
+        let writer = Slow {
             held: &mut held,
             failing: 4,
             writes: 0,
-        });
-        assert!(rt; put(&mut sink, b"abcde"));
-        assert!(rt; !put(&mut sink, b"fghij"));
+        };
+        let mut sink = StreamSink::new(rt.alloc(), writer)?;
+        assert!(rt; put(&mut sink, b"abc"));
+        assert!(rt; put(&mut sink, b"de"));
+        assert!(rt; send_on(&mut sink));
+        assert!(rt; put(&mut sink, b"fghij"));
+        assert!(rt; !send_on(&mut sink));
+        assert!(rt; send_on(&mut sink));
         assert!(rt; put(&mut sink, b""));
+        assert!(rt; send_on(&mut sink));
     }
-    assert_eq!(rt; held.as_slice(), b"abcdefg".as_slice());
+    assert_eq!(rt; held.as_slice(), b"abcdefghij".as_slice());
+    Ok(())
+}
+
+#[test]
+fn what_fills_the_room_is_written_before_the_flush(rt: HostRuntime) -> Result<(), Fail> {
+    let long = vec![in rt.alloc(); b'x'; 65_536]?;
+    // the room holds 65,536 bytes: one byte waits, and goes before a piece that fills the room
+    let pieces: [(&[u8], bool); 3] = [(b"a", true), (long.as_slice(), false), (b"b", true)];
+    let mut held = Vec::new(rt.alloc());
+    {
+        let writer = Slow {
+            held: &mut held,
+            failing: 1,
+            writes: 0,
+        };
+        let mut sink = StreamSink::new(rt.alloc(), writer)?;
+        for (piece, works) in pieces {
+            assert_eq!(rt; put(&mut sink, piece), works);
+        }
+        assert!(rt; send_on(&mut sink));
+    }
+    assert_eq!(rt; held.as_slice(), b"ab".as_slice());
     Ok(())
 }

@@ -2,6 +2,7 @@
 use Rattle.std.specs.Prelude.{ℕ, List, [], ◌∷◌, ◌*◌, ◌||◌, if◌then◌else◌, nat_le, Option, Some, None, Result, Ok, Err, bytes_eq, codes, take_while, drop}
 use Rattle.std.specs.List.{prefix_len}
 use Rattle.std.specs.Char.{is_ascii_digit}
+use Rattle.fnc_journal.specs.declared.limits.TheConstants.{DAY}
 use Rattle.fnc_text.specs.Digits.{digits_value}
 use Rattle.fnc_text.specs.declared.duration.DurationFault.{DurationFault}
 
@@ -20,7 +21,7 @@ unit text =
 
 -- a day at most
 abbrev pub within_a_day : ℕ → Result ℕ DurationFault
-within_a_day ms = if nat_le ms 86400000 then Ok ms else Err DurationFault.TooLarge
+within_a_day ms = if nat_le ms DAY then Ok ms else Err DurationFault.TooLarge
 
 -- so many of a unit
 abbrev pub counted : ℕ → Option ℕ → Result ℕ DurationFault

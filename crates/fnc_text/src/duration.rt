@@ -6,6 +6,7 @@ ghost use Rattle.std.specs.List.{list_all, prefix_len};
 ghost use Rattle.fnc_text.specs.Durations.{after_digits, unit, duration};
 
 use crate::number::value_up_to;
+use fnc_journal::limits::DAY;
 use thiserror::Error;
 
 /// Why a text is no duration.
@@ -25,13 +26,11 @@ pub enum DurationFault {
     TooLarge,
 }
 
-const DAY: u64 = 86_400_000;
-
 /// A duration in milliseconds: decimal digits and a unit. No unit, `s` and `sec` are seconds, `ms`
 /// and `msec` milliseconds, `m` and `min` minutes, `h` and `hr` hours. It ends at 24 hours.
 pub fn read_duration(text: &[u8]) -> Result<u64, DurationFault>
     ensures value { result ≡ duration text.now }
-    ensures within { IfOk result (λ ms. ms ≤ 86400000) }
+    ensures within { IfOk result (λ ms. ms ≤ DAY) }
 {
     let Some(first) = text.first() else {
         return Err(DurationFault::Empty);

@@ -4,11 +4,13 @@ ghost use Rattle.std.specs.Prelude.{◌≡◌};
 ghost use Rattle.std.specs.List.{list_all};
 ghost use Rattle.fnc_text.specs.Names.{is_name, is_name_byte};
 
+use fnc_journal::limits::LONGEST_NAME;
+
 /// Whether a text is a name: 1 to 255 bytes, none of them a control byte, a space or a comma.
 pub fn is_name(text: &str) -> bool
     ensures { result ≡ is_name text.now }
 {
-    !text.is_empty() && text.len() <= 255 && are_name_bytes(text.as_bytes())
+    !text.is_empty() && text.len() <= LONGEST_NAME && are_name_bytes(text.as_bytes())
 }
 
 fn are_name_bytes(text: &[u8]) -> bool

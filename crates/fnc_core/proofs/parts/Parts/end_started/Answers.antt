@@ -1,7 +1,7 @@
 -- The run has its place on its lane, the journal has room for its exit, and the parts after it are those of the journal.
 use Rattle.std.proofs.Common.{◌≡◌, ◌<◌, true, subst, sym, ap, ◌∙◌}
 use Rattle.std.specs.Prelude.{Some}
-use Rattle.fnc_journal.specs.Found.{Started, started}
+use Rattle.fnc_journal.specs.Found.{started}
 use Rattle.fnc_journal.specs.Startable.{is_alive}
 use Rattle.fnc_queue.specs.Lanes.{lane_count, CountsOneMore}
 use Rattle.fnc_queue.specs.Queued.{ended}
@@ -13,29 +13,26 @@ use Rattle.fnc_core.proofs.parts.Parts.end_started.Goals as goal
 pub ended-requires-2 : goal.ended-requires-2
 ended-requires-2 c =
     let p : Parted = record { history = c.self.inside.journal.history; limit = c.self.inside.journal.limit; ops = c.self.inside.ops; queue = c.self.inside.queue } in
-    let s : Started = record { req = c.start.inside.req.0; slot = c.start.inside.slot; reg = c.start.inside.reg.0; kind = c.start.inside.kind } in
     let rests : Rests c.args.moment p = subst (λ (v : Parted). Rests c.args.moment v) (sym c.self.view_is) c.requires.rests in
-    let lives : is_alive c.args.run.0 p.history ≡ true = ap (λ (v : Parted). is_alive c.args.run.0 v.history) c.self.view_is ∙ c.requires.alive in
-    let was : started c.args.run.0 p.history ≡ Some s = ap (λ (v : Parted). started c.args.run.0 v.history) c.self.view_is ∙ c.requires.started ∙ ap Some (sym c.start.view_is) in
-    subst (λ n. 0 < lane_count n p.queue.alive) (sym c.lane_of.ensures) (lane-runs c.args.moment p rests c.args.run c.args.exit c.args.listed lives s was)
+    let lives : is_alive c.args.ended.run.0 p.history ≡ true = ap (λ (v : Parted). is_alive c.args.ended.run.0 v.history) c.self.view_is ∙ c.requires.alive in
+    let was : started c.args.ended.run.0 p.history ≡ Some c.args.start = ap (λ (v : Parted). started c.args.ended.run.0 v.history) c.self.view_is ∙ c.requires.started in
+    subst (λ n. 0 < lane_count n p.queue.alive) (sym c.lane.ensures) (lane-runs c.args.moment p rests c.args.ended lives c.args.start was)
 
 pub push-requires : goal.push-requires
 push-requires c =
     let p : Parted = record { history = c.self.inside.journal.history; limit = c.self.inside.journal.limit; ops = c.self.inside.ops; queue = c.self.inside.queue } in
-    let s : Started = record { req = c.start.inside.req.0; slot = c.start.inside.slot; reg = c.start.inside.reg.0; kind = c.start.inside.kind } in
     let rests : Rests c.args.moment p = subst (λ (v : Parted). Rests c.args.moment v) (sym c.self.view_is) c.requires.rests in
-    let lives : is_alive c.args.run.0 p.history ≡ true = ap (λ (v : Parted). is_alive c.args.run.0 v.history) c.self.view_is ∙ c.requires.alive in
-    let was : started c.args.run.0 p.history ≡ Some s = ap (λ (v : Parted). started c.args.run.0 v.history) c.self.view_is ∙ c.requires.started ∙ ap Some (sym c.start.view_is) in
-    room-ended c.args.moment p rests c.args.run c.args.exit c.args.listed lives s was
+    let lives : is_alive c.args.ended.run.0 p.history ≡ true = ap (λ (v : Parted). is_alive c.args.ended.run.0 v.history) c.self.view_is ∙ c.requires.alive in
+    let was : started c.args.ended.run.0 p.history ≡ Some c.args.start = ap (λ (v : Parted). started c.args.ended.run.0 v.history) c.self.view_is ∙ c.requires.started in
+    room-ended c.args.moment p rests c.args.ended lives c.args.start was
 
 pub returns-clause-between : goal.returns-clause-between
 returns-clause-between c =
     let p : Parted = record { history = c.self.inside.journal.history; limit = c.self.inside.journal.limit; ops = c.self.inside.ops; queue = c.self.inside.queue } in
     let q : Parted = record { history = c.push.new.self.history; limit = c.push.new.self.limit; ops = c.ended.new.self; queue = c.requeue.new.queue } in
-    let s : Started = record { req = c.start.inside.req.0; slot = c.start.inside.slot; reg = c.start.inside.reg.0; kind = c.start.inside.kind } in
     let rests : Rests c.args.moment p = subst (λ (v : Parted). Rests c.args.moment v) (sym c.self.view_is) c.requires.rests in
-    let lives : is_alive c.args.run.0 p.history ≡ true = ap (λ (v : Parted). is_alive c.args.run.0 v.history) c.self.view_is ∙ c.requires.alive in
-    let was : started c.args.run.0 p.history ≡ Some s = ap (λ (v : Parted). started c.args.run.0 v.history) c.self.view_is ∙ c.requires.started ∙ ap Some (sym c.start.view_is) in
-    between-ended c.args.moment p rests c.args.run c.args.exit c.args.listed lives s was c.ended-2.new.self q (record { history = c.push.ensures.history; limit = c.push.ensures.limit })
-    (c.ended-2.ensures.after ∙ ap (λ n. ended n p.queue) c.lane_of.ensures) (subst (λ n. CountsOneMore n c.ended-2.new.self.alive p.queue.alive) c.lane_of.ensures c.ended-2.ensures.counts)
-    c.requeue.ensures.changes c.requeue.ensures.alive c.requeue.ensures.places c.ended.ensures.stands c.ended.ensures.at (c.ended.ensures.others s was)
+    let lives : is_alive c.args.ended.run.0 p.history ≡ true = ap (λ (v : Parted). is_alive c.args.ended.run.0 v.history) c.self.view_is ∙ c.requires.alive in
+    let was : started c.args.ended.run.0 p.history ≡ Some c.args.start = ap (λ (v : Parted). started c.args.ended.run.0 v.history) c.self.view_is ∙ c.requires.started in
+    between-ended c.args.moment p rests c.args.ended lives c.args.start was c.ended-2.new.self q (record { history = c.push.ensures.history; limit = c.push.ensures.limit })
+    (c.ended-2.ensures.after ∙ ap (λ n. ended n p.queue) c.lane.ensures) (subst (λ n. CountsOneMore n c.ended-2.new.self.alive p.queue.alive) c.lane.ensures c.ended-2.ensures.counts)
+    c.requeue.ensures.changes c.requeue.ensures.alive c.requeue.ensures.places c.ended.ensures.stands c.ended.ensures.at (c.ended.ensures.others c.args.start was)

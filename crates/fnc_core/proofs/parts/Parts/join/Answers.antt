@@ -1,5 +1,6 @@
 -- The parts with a request that joined, and without memory for it.
-use Rattle.std.proofs.Common.{◌∷◌, ◌≡◌, ◌≤◌, ◌+◌, ◌∙◌, ap, subst, sym, arith, length, true, option_map, Some}
+use Rattle.std.proofs.Common.{refl, ◌∷◌, ◌≡◌, ◌≤◌, ◌+◌, ◌∙◌, ap, subst, sym, arith, length, true, option_map, Some}
+use Rattle.fnc_journal.specs.declared.event.Request.{Request}
 use Rattle.fnc_journal.specs.declared.event.Event.{Event}
 use Rattle.fnc_journal.specs.Lawful.{in_order}
 use Rattle.fnc_journal.specs.Operations.{joined}
@@ -7,7 +8,7 @@ use Rattle.fnc_journal.specs.Owed.{owed}
 use Rattle.fnc_journal.specs.Slots.{Operation}
 use Rattle.fnc_ops.specs.Kept.{Kept}
 use Rattle.fnc_queue.specs.Queued.{reserved}
-use Rattle.fnc_core.specs.Between.{Rests, RoomFor, Stays}
+use Rattle.fnc_core.specs.Between.{Rests, RoomFor, Stays, entry, request_of}
 use Rattle.fnc_core.specs.Parted.{Parted}
 use Rattle.fnc_core.proofs.AskedParts.{between-joined, ordered-next}
 use Rattle.fnc_core.proofs.OwedAsks.{joined-open}
@@ -28,17 +29,18 @@ returns-clause-between c =
     let p : Parted = record { history = c.self.inside.journal.history; limit = c.self.inside.journal.limit; ops = c.self.inside.ops; queue = c.self.inside.queue } in
     let q : Parted = record { history = c.push.new.self.history; limit = c.push.new.self.limit; ops = c.join.new.self; queue = c.reserve.new.self } in
     let rests : Rests c.args.moment p = subst (λ (v : Parted). Rests c.args.moment v) (sym c.self.view_is) c.requires.rests in
-    let ordered : in_order (Event.Ask (record { req = c.args.req; lead = c.args.lead; client = c.args.ask.client; kind = c.args.ask.kind; target = c.args.ask.target; total = c.args.ask.total; coin = c.args.ask.coin; scope = c.args.scope })) p.history ≡ true =
-    subst (λ (v : Parted). in_order (Event.Ask (record { req = c.args.req; lead = c.args.lead; client = c.args.ask.client; kind = c.args.ask.kind; target = c.args.ask.target; total = c.args.ask.total; coin = c.args.ask.coin; scope = c.args.scope })) v.history ≡ true) (sym c.self.view_is) c.requires.ordered in
+    let ordered : in_order (Event.Ask (request_of c.args.req c.args.lead c.args.ask c.args.scope)) p.history ≡ true =
+    subst (λ (v : Parted). in_order (Event.Ask (request_of c.args.req c.args.lead c.args.ask c.args.scope)) v.history ≡ true) (sym c.self.view_is) c.requires.ordered in
     let led : option_map (λ (o : Operation). o.req) (joined p.history c.args.moment c.args.ask.kind c.args.ask.target) ≡ Some c.args.lead.0 =
     subst (λ (v : Parted). option_map (λ (o : Operation). o.req) (joined v.history c.args.moment c.args.ask.kind c.args.ask.target) ≡ Some c.args.lead.0) (sym c.self.view_is) c.requires.leads in
     let room : RoomFor p 2 = subst (λ (v : Parted). RoomFor v 2) (sym c.self.view_is) c.requires.room in
     let left : length p.history + owed p.history + 2 ≤ p.limit = room in
     let small : p.limit ≤ 1_048_576 = rests.between.small in
     let owes : c.owed.result ≡ owed p.history = c.owed.ensures p.history rests.between.stands (omega (arith, left, small)) in
-    between-joined c.args.moment c.args.req c.args.lead c.args.ask.client c.args.ask.kind c.args.ask.target c.args.ask.total c.args.ask.coin c.args.scope p rests q
-    (record { history = c.push.ensures.history ∙ ap (λ e. e ∷ p.history) c.ask_entry.ensures; limit = c.push.ensures.limit }) ordered led room
-    (c.in_ok-join.ensures.ok p.history c.args.moment c.args.ask.client c.args.ask.kind c.args.ask.target c.args.ask.total c.args.ask.coin c.args.scope rests.between.lawful rests.between.stands
-    (ordered-next c.args.req c.args.lead c.args.ask.client c.args.ask.kind c.args.ask.target c.args.ask.total c.args.ask.coin c.args.scope p.history ordered)
+    let q_is : c.in_ok-request.request ≡ request_of c.args.req c.args.lead c.args.ask c.args.scope = c.in_ok-request.ensures ∙ c.into_request.ensures in
+    between-joined c.args.moment (request_of c.args.req c.args.lead c.args.ask c.args.scope) p rests q
+    (record { history = c.push.ensures.history ∙ ap (λ (r : Request). entry c.args.moment (Event.Ask r) ∷ p.history) q_is; limit = c.push.ensures.limit }) ordered led room
+    (c.in_ok-join.ensures.ok p.history c.args.moment (request_of c.args.req c.args.lead c.args.ask c.args.scope) refl refl rests.between.lawful rests.between.stands
+    (ordered-next (request_of c.args.req c.args.lead c.args.ask c.args.scope) p.history ordered)
     (joined-open p.history c.args.moment c.args.ask.kind c.args.ask.target c.args.lead.0 led))
     (c.join.ensures.at c.args.moment rests.between.at) c.join.ensures.waits (c.in_ok-reserve.ensures.ok ∙ ap (λ n. reserved (n + 1) p.queue) owes)

@@ -1,5 +1,5 @@
 -- The records stand for the journal with the operator's word.
-use Rattle.std.proofs.Common.{◌∷◌, ◌∙◌, ap, sym, subst}
+use Rattle.std.proofs.Common.{ℕ, List, map, ◌∷◌, ◌∙◌, ap, sym, subst}
 use Rattle.fnc_ops.specs.Kept.{Kept}
 use Rattle.fnc_ops.specs.OperationRecords.{operation_confirmed}
 use Rattle.fnc_ops.specs.OpsRecords.{waiting}
@@ -9,9 +9,14 @@ use Rattle.fnc_ops.proofs.Waits.{at-map, moment-confirmed, waiting-confirmed}
 use Rattle.fnc_ops.proofs.ops.Ops.confirm.Goals as goal
 
 pub returns-clause-stands : goal.returns-clause-stands
-returns-clause-stands c moment client =
-    subst (λ (v : Kept). StandsFor v (confirm_entry moment client c.args.target.now ∷ c.args.journal.now.history)) (sym c.kept_confirmed.ensures)
-    (record { each = stands-confirmed c.args.journal.now.history moment client c.args.target.now c.args.self.now.operations c.requires.stands.each; alive = c.requires.stands.alive })
+returns-clause-stands c moment word own =
+    subst (λ (v : Kept). StandsFor v (confirm_entry moment word ∷ c.args.journal.now.history))
+    (ap (λ (t : List ℕ). record { operations = map (operation_confirmed t) c.args.self.now.operations; alive = c.args.self.now.alive }) own
+    ∙ sym c.kept_confirmed.ensures)
+    (record {
+      each = stands-confirmed c.args.journal.now.history moment word c.args.self.now.operations c.requires.stands.each;
+      alive = c.requires.stands.alive;
+    })
 
 pub returns-clause-at : goal.returns-clause-at
 returns-clause-at c m at =
