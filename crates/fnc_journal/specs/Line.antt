@@ -62,7 +62,8 @@ start_line run device kind target attempt =
 -- the line of an entry after those before it: of a start, a reply and a refusal; no byte of any other
 abbrev pub line_of : Event → History → List ℕ
 line_of (Event.Start start) before = start_line start.run.0 (name_of start.reg.0 before) start.kind (target_of start.req.0 before) start.attempt
-line_of (Event.Reply reply) before = codes "reply.answer " ++ decimal reply.req.0 ++ codes " " ++ answer_words reply.answer ++ codes "\n"
+line_of (Event.Reply reply) before =
+    codes "answer " ++ decimal reply.req.0 ++ codes " " ++ answer_words reply.answer ++ codes "\n"
 line_of (Event.Refused refusal) before = codes "refused " ++ decimal refusal.line ++ codes " " ++ word_of refusal.cause ++ codes "\n"
 line_of _ before = []
 

@@ -285,7 +285,12 @@ fn the_judge_knows_places_splits_and_merged_requests(rt: HostRuntime) -> Result<
         (&MERGED, 5, "2 reply 1 ok 1", unlawful(5, Rule::Reply)),
         (&MERGED, 5, "2 pass", unlawful(5, Rule::Prompt)),
         (&MERGED, 6, "2 reply 0 ok 1", unlawful(6, Rule::Once)),
-        (&MERGED, 6, "2 reply 1 failed levels", unlawful(6, Rule::Once)),
+        (
+            &MERGED,
+            6,
+            "2 reply 1 failed levels",
+            unlawful(6, Rule::Once),
+        ),
         (&MERGED, 6, "2 pass", unlawful(6, Rule::Once)),
         (&CONFIRMED, 3, "5 confirm op n2", unlawful(4, Rule::Reply)),
     ];
