@@ -12,6 +12,7 @@ use Rattle.fnc_journal.specs.Levels.{is_in_place}
 use Rattle.fnc_journal.specs.Slots.{Operation, operation_of}
 use Rattle.fnc_journal.specs.Operations.{led, operation}
 use Rattle.fnc_journal.specs.Lawful.{Lawful, in_order, may_ask}
+use Rattle.fnc_journal.proofs.Frames.{or_here-some}
 use Rattle.fnc_journal.proofs.Lawfulness.{and-left, and-right, in_order-of}
 use Rattle.fnc_ops.specs.SlotRecords.{capped}
 use Rattle.fnc_core.specs.Limits.{over_by}
@@ -50,6 +51,7 @@ asked-short (e ∷ before) l r a f =
 
     go : (event : Event) → IsTrue (in_order event before) → (x : Option Asked) → (x ≡ Some a → IsShort a) →
         or_here x (asked_here r e.moment before event) ≡ Some a → IsShort a
+    go event i (Some b) ih g = ih (sym (or_here-some b (asked_here r e.moment before event)) ∙ g)
     go (Event.Ask q) i None ih g = this (r == q.req.0) g
       where
         short : q.total ≤ 86_400_000
@@ -60,9 +62,7 @@ asked-short (e ∷ before) l r a f =
         this : (b : Bool) → or_here None (cond b (Some (told e.moment q before)) None) ≡ Some a → IsShort a
         this true k = let same : told e.moment q before ≡ a = cc in subst IsShort same (record { early = early; short = short })
         this false k = cc
-    go (Event.Ask q) i (Some b) ih g = ih g
     go _ i None ih g = cc
-    go _ i (Some b) ih g = ih g
 
 -- the entry that says what the request of a number is, says when the total time of its operation is over
 pub over-found : (h : History) → Lawful h → (r : ℕ) (o : Operation) → operation r h ≡ Some o → (e : Entry) →

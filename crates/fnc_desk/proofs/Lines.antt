@@ -1,13 +1,14 @@
 -- The line of an entry in a lawful journal: what the whole journal finds of its names is what was found before it.
-use Rattle.std.proofs.Common.{ℕ, List, [], ◌∷◌, ◌++◌, Bool, true, false, ◌≡◌, ◌<◌, ◌+◌, ◌==◌, cond, refl, sym, ap₂, ◌∙◌, subst, Option, Some, None, IsTrue, is_some, arith, length, eqb-true, false-eqb, ltb, le-ltb, lt-ltb}
+use Rattle.std.proofs.Common.{ap, ℕ, List, [], ◌∷◌, ◌++◌, Bool, true, false, ◌≡◌, ◌<◌, ◌+◌, ◌==◌, cond, refl, sym, ap₂, ◌∙◌, subst, Option, Some, None, IsTrue, is_some, arith, length, eqb-true, false-eqb, ltb, le-ltb, lt-ltb}
 use Rattle.std.specs.Prelude.{find, option_map, option_and_then, unwrap_or}
 use Rattle.fnc_outside.specs.Writes.{AppendsPart}
 use Rattle.fnc_journal.specs.declared.definition.Registration.{Registration}
 use Rattle.fnc_journal.specs.declared.entry.Entry.{Entry}
 use Rattle.fnc_journal.specs.declared.event.Event.{Event}
+use Rattle.fnc_journal.specs.declared.event.Request.{Request}
 use Rattle.fnc_journal.specs.History.{History}
 use Rattle.fnc_journal.specs.Missing.{or_here}
-use Rattle.fnc_journal.specs.Found.{Asked, asked, asked_here, asks, entry_at, is_ask_of, registration, registration_here}
+use Rattle.fnc_journal.specs.Found.{Asked, asked, asked_here, asks, entry_at, is_ask_of, registration, registration_here, request, requested_here}
 use Rattle.fnc_journal.specs.Lawful.{Lawful, in_order}
 use Rattle.fnc_journal.specs.Line.{answers_text, line_at, line_of, start_line, target_of}
 use Rattle.fnc_journal.specs.Operations.{led, operation}
@@ -15,37 +16,57 @@ use Rattle.fnc_journal.specs.Prefix.{prefix}
 use Rattle.fnc_journal.proofs.Lawfulness.{and-left, and-right, in_order-of}
 use Rattle.fnc_journal.proofs.Prefixes.{prefix-all}
 use Rattle.fnc_journal.proofs.Requests.{fresh_ask}
-use Rattle.fnc_desk.specs.Searched.{found_target}
 use Rattle.fnc_desk.proofs.Pieces.{part-of_front}
 
--- the newest request of a number is the request of that number
-pub target_found : (h : History) → Lawful h → (r : ℕ) → found_target (find (λ e. is_ask_of r e.event) h) ≡ target_of r h
-target_found [] l r = refl
-target_found (e ∷ before) l r = go e.event (in_order-of e.moment e.event before l.0.ordered) (target_found before l.1 r)
+-- the target of what was found under a number
+abbrev target_in : Option Request → Option (List ℕ)
+target_in x = option_map (λ (q : Request). q.target) x
+
+abbrev asked_target : Option Asked → Option (List ℕ)
+asked_target x = option_map (λ (a : Asked). a.target) x
+
+first-target : (x u : Option Request) (y v : Option Asked) → target_in x ≡ asked_target y → target_in u ≡ asked_target v →
+    target_in (or_here x u) ≡ asked_target (or_here y v)
+first-target None None None None e f = refl
+first-target None None None (Some v) e f = cc
+first-target None (Some u) None None e f = cc
+first-target None (Some u) None (Some v) e f = f
+first-target None u (Some y) v e f = cc
+first-target (Some x) u None v e f = cc
+first-target (Some x) None (Some y) None e f = e
+first-target (Some x) None (Some y) (Some v) e f = e
+first-target (Some x) (Some u) (Some y) None e f = e
+first-target (Some x) (Some u) (Some y) (Some v) e f = e
+
+request-target : (h : History) (r : ℕ) → target_in (request r h) ≡ asked_target (asked r h)
+request-target [] r = refl
+request-target (e ∷ before) r =
+    first-target (request r before) (requested_here r e.event) (asked r before) (asked_here r e.moment before e.event)
+    (request-target before r) (here e.event)
   where
-    go : (event : Event) → IsTrue (in_order event before) → found_target (find (λ e. is_ask_of r e.event) before) ≡ target_of r before →
-        found_target (cond (is_ask_of r event) (Some (record { moment = e.moment; event = event })) (find (λ e. is_ask_of r e.event) before))
-        ≡ target_of r (record { moment = e.moment; event = event } ∷ before)
-    go (Event.Ask ask_) i ih = ask (r == ask_.req.0) refl
+    here : (event : Event) → target_in (requested_here r event) ≡ asked_target (asked_here r e.moment before event)
+    here (Event.Ask q) = this (r == q.req.0)
       where
-        said : Asked
-        said = record { moment = e.moment; lead = ask_.lead.0; kind = ask_.kind; target = ask_.target; total = ask_.total; coin = ask_.coin; scope = ask_.scope; before = before }
+        told : Asked
+        told = record {
+          moment = e.moment;
+          lead = q.lead.0;
+          kind = q.kind;
+          target = q.target;
+          total = q.total;
+          coin = q.coin;
+          scope = q.scope;
+          before = before;
+        }
 
-        new : ask_.req.0 ≡ asks before
-        new = eqb-true ask_.req.0 (asks before) (and-left _ _ (and-left _ _ (and-left _ _ (and-left _ _ i))))
+        this : (b : Bool) → target_in (cond b (Some q) None) ≡ asked_target (cond b (Some told) None)
+        this true = refl
+        this false = refl
+    here _ = refl
 
-        first : (x : Option Asked) → x ≡ None → ask_.target ≡ unwrap_or (option_map (λ (a : Asked). a.target) (or_here x (Some said))) []
-        first None p = refl
-        first (Some a) p = cc
-
-        ask : (b : Bool) → (r == ask_.req.0) ≡ b →
-            found_target (cond b (Some (record { moment = e.moment; event = Event.Ask ask_ })) (find (λ e. is_ask_of r e.event) before))
-            ≡ unwrap_or (option_map (λ (a : Asked). a.target) (or_here (asked r before) (cond b (Some said) None))) []
-        ask true k =
-            let same : r ≡ ask_.req.0 = eqb-true r ask_.req.0 k in
-            first (asked r before) (fresh_ask before l.1 r (omega (arith, same, new)))
-        ask false k = ih
-    go _ i ih = ih
+-- the request that is found under a number says the target of the request of that number
+pub target_found : (h : History) (r : ℕ) → unwrap_or (target_in (request r h)) [] ≡ target_of r h
+target_found h r = ap (λ (x : Option (List ℕ)). unwrap_or x []) (request-target h r)
 
 -- what a start names is in the journal
 abbrev Known : Event → History → Type 0

@@ -152,10 +152,10 @@ alive-counted (e ∷ before) l = go e.event (in_order-of e.moment e.event before
         ≡ length (alive_runs (record { moment = e.moment; event = event } ∷ before)) + exits (record { moment = e.moment; event = event } ∷ before)
     go (Event.Start start_) i x ih =
         let new : start_.run.0 ≡ starts before = eqb-true start_.run.0 (starts before) (and-left _ _ (and-left _ _ i)) in
-        let more = ap length (alive_runs-start before l.1 e.moment start_.run start_.req start_.slot start_.reg start_.kind start_.attempt new) ∙ length-append (alive_runs before) (record { run = start_.run.0; reg = start_.reg.0 } ∷ []) in
+        let more = ap length (alive_runs-start before l.1 e.moment start_ new) ∙ length-append (alive_runs before) (record { run = start_.run.0; reg = start_.reg.0 } ∷ []) in
         omega (arith, ih, more)
     go (Event.Exit ended) i x ih =
-        let fewer = ap length (alive_runs-exit before e.moment ended.run ended.exit ended.listed) in
+        let fewer = ap length (alive_runs-exit before e.moment ended) in
         omega (arith, ih, fewer, alive-less before l.1 ended.run.0 x)
     go _ i x ih = ih
 

@@ -6,5 +6,4 @@ pub mod Reading
 pub mod Entered
 pub mod Lines
 pub mod Printed
-pub mod Searched
 pub mod Tallied

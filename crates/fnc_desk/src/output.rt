@@ -9,7 +9,6 @@ ghost use Rattle.fnc_journal.specs.Lawful.{Lawful};
 ghost use Rattle.fnc_journal.specs.Line as Line;
 ghost use Rattle.fnc_journal.specs.Prefix.{prefix};
 ghost use Rattle.fnc_desk.specs.Printed.{piece_text};
-ghost use Rattle.fnc_desk.specs.Searched as Searched;
 
 use crate::printing::{Piece, print_pieces};
 use crate::tally::{alive, counted};
@@ -26,22 +25,12 @@ fn name_of(journal: &Journal, reg: Reg) -> &str
     }
 }
 
-fn ask_target(event: &Event) -> &str
-    ensures { result.now ≡ Searched.ask_target event.now }
-{
-    match event {
-        Event::Ask(request) => request.get().target.as_str(),
-        _ => "",
-    }
-}
-
 /// The target of a request, nothing where there is no such request.
 fn target_of(journal: &Journal, req: Req) -> &str
-    requires { Lawful journal.now.history }
     ensures { result.now ≡ Line.target_of req.0 journal.now.history }
 {
-    match journal.latest_ask(req) {
-        Some(entry) => ask_target(&entry.event),
+    match journal.request(req) {
+        Some(request) => request.target.as_str(),
         None => "",
     }
 }

@@ -6,8 +6,8 @@ ghost use Rattle.fnc_desk.specs.Plain.{plain, default_allowed};
 ghost use Rattle.fnc_desk.specs.Inputs.{plain_registration};
 
 use fnc_journal::{
-    Actions, Allowed, Base, Boxed, Candidate, Definition, HostCheck, NoMemory, Plan, Reg, Registration,
-    Scope, Sequence, Text,
+    Actions, Allowed, Base, Boxed, Candidate, Definition, HostCheck, NoMemory, Plan, Reg,
+    Registration, Scope, Sequence, Text,
 };
 use std::alloc::Global;
 
