@@ -13,7 +13,7 @@ use Rattle.fnc_journal.specs.Due.{passed_among, answer_passed, failure_due, time
 use Rattle.fnc_judge.specs.declared.course.Due.{Due}
 use Rattle.fnc_judge.specs.Tours.{Gathered, gathered_all, gathered_any, nothing}
 use Rattle.fnc_judge.specs.Surveys.{Survey, Kept, none, surveyed, surveyed_all}
-use Rattle.fnc_judge.specs.Pursued.{Pursued, operation, candidates_of}
+use Rattle.fnc_search.specs.Pursued.{Pursued, operation, candidates_of}
 use Rattle.fnc_judge.specs.Courses.{Course, start, coursed, coursed_all, tried, course_by, course_of, queries_of, survey_of, answer_of, standing_by, time_by, failure_by, passed_by, due_by, since_by}
 use Rattle.fnc_judge.proofs.Gatherings.{gathered-unconcluded, gathered-greatest, all-find}
 use Rattle.fnc_judge.proofs.SurveyLemmas.{kept_of, survey-kept, survey-any, survey-greatest, standing-same, done-same, passed-same, lost-all}

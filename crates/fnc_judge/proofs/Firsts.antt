@@ -3,7 +3,7 @@ use Rattle.std.proofs.Common.{ℕ, [], ◌∷◌, Bool, true, false, ◌≡◌, 
 use Rattle.fnc_journal.specs.declared.outcome.Rule.{Rule}
 use Rattle.fnc_journal.specs.Found.{entry_at}
 use Rattle.fnc_journal.proofs.Prefixes.{prefix-more}
-use Rattle.fnc_judge.proofs.Prefixed.{prefix-length}
+use Rattle.fnc_search.proofs.Prefixed.{prefix-length}
 use Rattle.fnc_journal.specs.declared.entry.Entry.{Entry}
 use Rattle.fnc_journal.specs.History.{History}
 use Rattle.fnc_journal.specs.Prefix.{prefix}

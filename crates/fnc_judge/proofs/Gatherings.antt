@@ -6,9 +6,9 @@ use Rattle.std.specs.Option.{option_or}
 use Rattle.fnc_journal.specs.Slots.{Task, Operation}
 use Rattle.fnc_journal.specs.Acts.{Act, confirmed, concluded, spent, concluded_at}
 use Rattle.fnc_journal.specs.Standing.{is_lost_by, greatest_concluded}
-use Rattle.fnc_judge.specs.Seen.{seen_of, confirmed_by, concluded_by, spent_by}
+use Rattle.fnc_search.specs.Seen.{seen_of, confirmed_by, concluded_by, spent_by}
 use Rattle.fnc_judge.specs.Tours.{Gathered, gathered, gathered_all}
-use Rattle.fnc_judge.proofs.Looks.{confirmed_same, concluded_same}
+use Rattle.fnc_search.proofs.Looks.{confirmed_same, concluded_same}
 
 option_or-next : {X : Type 0} (e : Option X) (b : Bool) (x : X) (rest : Option X) → option_or (option_or e (cond b None (Some x))) rest ≡ option_or e (cond (not b) (Some x) rest)
 option_or-next None true x rest = refl

@@ -1,17 +1,12 @@
-pub mod Prefixed
+-- That what is gathered of operations is what the definitions of standing, due and startable say, and that the
+-- judge finds the first fault.
 pub mod Counts
-pub mod Leads
-pub mod Rising
-pub mod Oldest
-pub mod Looks
 pub mod Gatherings
 pub mod Ranks
-pub mod Ordered
-pub mod Queue
 pub mod SurveyLemmas
 pub mod CourseLemmas
 pub mod Opening
+pub mod Waiting
+pub mod Lefts
 pub mod Testings
 pub mod Firsts
-pub mod Searches
-pub mod Writing

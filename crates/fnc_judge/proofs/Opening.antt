@@ -10,9 +10,10 @@ use Rattle.fnc_journal.specs.Registered.{lane}
 use Rattle.fnc_journal.specs.Slots as Slots
 use Rattle.fnc_journal.specs.Operations.{operation, led, requests, request_here, unanswered, is_open, operation_here, operations, open_operations}
 use Rattle.fnc_journal.specs.Startable.{Begun, Startable, begun_runs, startable, sooner, soonest, first_among}
-use Rattle.fnc_judge.specs.Pursued.{Pursued}
-use Rattle.fnc_judge.specs.Pursued as Pursued
-use Rattle.fnc_judge.specs.Opened.{waiting, waiting_here, pursued_by, pursued_of, opened, opens, found_after, counts, alive_in, counts_here, startable_any}
+use Rattle.fnc_search.specs.Pursued.{Pursued}
+use Rattle.fnc_search.specs.Pursued as Pursued
+use Rattle.fnc_judge.specs.Opened.{waiting, waiting_here, opened, opens, found_after, counts, alive_in, counts_here, startable_any}
+use Rattle.fnc_search.specs.Pursued.{pursued_by, pursued_of}
 
 -- the first of those that pass, with one more
 first-append : (p : ℕ → Bool) (xs : List ℕ) (x : ℕ) → first_of (filter p (xs ++ x ∷ [])) ≡ or_here (first_of (filter p xs)) (cond (p x) (Some x) None)

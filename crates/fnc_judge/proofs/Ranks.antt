@@ -9,9 +9,10 @@ use Rattle.fnc_journal.specs.Registered.{current}
 use Rattle.fnc_journal.specs.Levels.{Level}
 use Rattle.fnc_journal.specs.Plan.{reg_of, plan_level}
 use Rattle.fnc_journal.specs.Slots.{Operation, place_of, rank_of, rank, is_split, acts_from, ons_from, act_task, on_task}
-use Rattle.fnc_judge.specs.Places.{placed, is_unfit, firsts_over, ons_over}
+use Rattle.fnc_judge.specs.Places.{is_unfit, firsts_over, ons_over}
+use Rattle.fnc_search.specs.Placed.{placed}
 use Rattle.fnc_judge.specs.Surveys.{Survey, rank_over, ranks_for, is_split_over, surveyed, surveyed_all, surveyed_any}
-use Rattle.fnc_judge.proofs.Rising.{before_it}
+use Rattle.fnc_search.proofs.Rising.{before_it}
 use Rattle.fnc_journal.specs.Acts.{Act}
 
 -- the places of the names

@@ -1,5 +1,6 @@
 -- What the judge gathers of an operation: of its queries and of the levels that it tries.
-use Rattle.std.specs.Prelude.{ℕ, List, [], ◌∷◌, ◌&&◌, ◌+◌, if◌then◌else◌, nat_le, max, Option, Some, None, is_none, option_and_then}
+use Rattle.std.specs.Prelude.{ℕ, List, [], ◌∷◌, ◌&&◌, ◌+◌, if◌then◌else◌, nat_le, max, Option, Some, None, is_none}
+use Rattle.std.specs.Prelude.{option_and_then}
 use Rattle.std.specs.Option.{option_or}
 use Rattle.fnc_journal.specs.declared.entry.Answer.{Answer}
 use Rattle.fnc_journal.specs.Slots.{Task, QueriedDevice, Operation, rank, queries}
@@ -7,7 +8,7 @@ use Rattle.fnc_journal.specs.Acts.{Act}
 use Rattle.fnc_journal.specs.Standing.{capable_query, ranks}
 use Rattle.fnc_judge.specs.declared.course.Due.{Due}
 use Rattle.fnc_journal.specs.declared.entry.Scope.{Scope}
-use Rattle.fnc_judge.specs.Pursued.{Pursued, operation, candidates_of}
+use Rattle.fnc_search.specs.Pursued.{Pursued, operation, candidates_of}
 use Rattle.fnc_judge.specs.Tours.{Gathered, nothing, gathered_any, gathered_all}
 use Rattle.fnc_judge.specs.Surveys.{Survey, Kept, none, surveyed, surveyed_all}
 
@@ -25,7 +26,9 @@ start = record { queries = nothing; survey = none; index = 1 }
 abbrev pub coursed : Operation → ℕ → List Act → Course → QueriedDevice → Course
 coursed o m acts s c = record {
   queries = gathered_any o m acts s.queries c.query;
-  survey = if capable_query o acts c.query then surveyed o m acts s.survey (rank o.kind s.index (Some c.device ∷ [])) else s.survey;
+  survey =
+      if capable_query o acts c.query then surveyed o m acts s.survey (rank o.kind s.index (Some c.device ∷ []))
+      else s.survey;
   index = if capable_query o acts c.query then s.index + 1 else s.index;
 }
 
@@ -85,7 +88,8 @@ tried s = if is_none s.queries.unconcluded then s else record s { survey = none 
 -- of an operation with this scope
 abbrev pub course_by : Scope → Pursued → ℕ → List Act → Course
 course_by Scope.Nothing p m acts = tried (coursed_all (operation p) m acts start (candidates_of p))
-course_by _ p m acts = record { queries = nothing; survey = surveyed_all (operation p) m acts none (operation p).levels; index = 1 }
+course_by _ p m acts =
+    record { queries = nothing; survey = surveyed_all (operation p) m acts none (operation p).levels; index = 1 }
 
 -- of an operation
 abbrev pub course_of : Pursued → ℕ → List Act → Course

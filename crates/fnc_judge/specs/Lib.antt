@@ -1,14 +1,8 @@
-pub mod Led
 pub mod Courses
-pub mod Indices
-pub mod Keyed
 pub mod Numbers
 pub mod Opened
 pub mod Places
-pub mod Pursued
-pub mod Seen
 pub mod Surveys
 pub mod Testing
 pub mod Tours
 pub mod Verdicts
-pub mod Written

@@ -1,13 +1,14 @@
 -- The open operations, one after another, as the judge keeps them.
-use Rattle.std.specs.Prelude.{ℕ, List, [], ◌∷◌, Bool, true, false, nat_lt, ◌==◌, ◌&&◌, not, if◌then◌else◌, filter, Option, Some, None, option_and_then, length}
+use Rattle.std.specs.Prelude.{ℕ, List, [], ◌∷◌, Bool, true, false, nat_lt, ◌==◌, ◌&&◌, not, if◌then◌else◌, filter}
+use Rattle.std.specs.Prelude.{Option, Some, None, option_and_then, length}
 use Rattle.fnc_journal.specs.declared.event.Event.{Event}
 use Rattle.fnc_journal.specs.History.{History}
 use Rattle.fnc_journal.specs.Missing.{append_some, first_of}
-use Rattle.fnc_journal.specs.Found.{Asked, asked, is_answered, has_exit}
+use Rattle.fnc_journal.specs.Found.{is_answered, has_exit}
 use Rattle.fnc_journal.specs.Registered.{lane}
 use Rattle.fnc_journal.specs.Operations.{requests, request_here, is_open, operation_here}
 use Rattle.fnc_journal.specs.Startable.{Begun, begun_here, Startable, startable}
-use Rattle.fnc_judge.specs.Pursued.{Pursued, operation}
+use Rattle.fnc_search.specs.Pursued.{Pursued, operation, pursued_of}
 
 -- the first request of an operation in a journal that has no reply in all of it
 abbrev pub waiting : History → ℕ → History → Option ℕ
@@ -16,14 +17,6 @@ waiting all o h = first_of (filter (λ r. not (is_answered r all)) (requests o h
 -- the request that an entry adds, where it has no reply
 abbrev pub waiting_here : History → ℕ → Event → Option ℕ
 waiting_here all o event = option_and_then (λ r. if is_answered r all then None else Some r) (request_here o event)
-
--- a request that leads itself is an operation
-abbrev pub pursued_by : ℕ → Asked → Option Pursued
-pursued_by n a = if n == a.lead then Some (record { req = n; asked = a }) else None
-
--- the operation of a number
-abbrev pub pursued_of : ℕ → History → Option Pursued
-pursued_of n h = option_and_then (pursued_by n) (asked n h)
 
 -- the operation that an entry begins, where it is open
 abbrev pub opened : History → Event → Option Pursued

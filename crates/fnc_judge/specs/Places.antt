@@ -1,16 +1,10 @@
 -- The slots of a level, read off the names of its devices.
-use Rattle.std.specs.Prelude.{ℕ, List, [], ◌∷◌, Bool, ◌+◌, Option, is_none, option_map, option_and_then}
+use Rattle.std.specs.Prelude.{ℕ, List, [], ◌∷◌, Bool, ◌+◌, is_none, option_map, option_and_then}
 use Rattle.std.specs.List.{list_any, cons_option}
 use Rattle.fnc_journal.specs.declared.entry.Kind.{Kind}
 use Rattle.fnc_journal.specs.History.{History}
-use Rattle.fnc_journal.specs.Device.{Device}
-use Rattle.fnc_journal.specs.Registered.{current}
-use Rattle.fnc_journal.specs.Plan.{reg_of}
-use Rattle.fnc_journal.specs.Slots.{Task, place_of, act_task, on_task}
-
--- the device of a name, where it is registered and fit for an action
-abbrev pub placed : Kind → History → List ℕ → Option Device
-placed kind before name = place_of kind before (option_map reg_of (current name before))
+use Rattle.fnc_journal.specs.Slots.{Task, act_task, on_task}
+use Rattle.fnc_search.specs.Placed.{placed}
 
 -- whether one of the names has no such device
 abbrev pub is_unfit : Kind → History → List (List ℕ) → Bool
@@ -20,10 +14,12 @@ is_unfit kind before names = list_any (λ name. is_none (placed kind before name
 abbrev pub firsts_over : Bool → Kind → History → ℕ → ℕ → List (List ℕ) → List Task
 firsts_over split kind before level place [] = []
 firsts_over split kind before level place (name ∷ names) =
-    cons_option (option_map (act_task split kind level place) (placed kind before name)) (firsts_over split kind before level (place + 1) names)
+    cons_option (option_map (act_task split kind level place) (placed kind before name))
+    (firsts_over split kind before level (place + 1) names)
 
 -- the On slots of those that have one
 abbrev pub ons_over : Kind → History → ℕ → ℕ → List (List ℕ) → List Task
 ons_over kind before level place [] = []
 ons_over kind before level place (name ∷ names) =
-    cons_option (option_and_then (on_task level place) (placed kind before name)) (ons_over kind before level (place + 1) names)
+    cons_option (option_and_then (on_task level place) (placed kind before name))
+    (ons_over kind before level (place + 1) names)

@@ -1,11 +1,10 @@
 -- What the judge gathers of the levels of an operation.
-use Rattle.std.specs.Prelude.{ℕ, List, [], ◌∷◌, Bool, true, false, ◌||◌, ◌&&◌, if◌then◌else◌, nat_le, max, map, Option, Some, None, is_none}
+use Rattle.std.specs.Prelude.{ℕ, List, [], ◌∷◌, Bool, true, false, ◌||◌, ◌&&◌, if◌then◌else◌, nat_le, max, map}
+use Rattle.std.specs.Prelude.{Option, Some, None, is_none}
 use Rattle.std.specs.Option.{option_or}
 use Rattle.fnc_journal.specs.declared.entry.Kind.{Kind}
-use Rattle.fnc_journal.specs.declared.entry.LevelTarget.{LevelTarget}
-use Rattle.fnc_journal.specs.declared.entry.Scope.{Scope}
 use Rattle.fnc_journal.specs.History.{History}
-use Rattle.fnc_journal.specs.Levels.{Level, pattern_at}
+use Rattle.fnc_journal.specs.Levels.{Level}
 use Rattle.fnc_journal.specs.Plan.{plan_level}
 use Rattle.fnc_journal.specs.Slots.{Task, Rank, Operation, rank_of}
 use Rattle.fnc_journal.specs.Acts.{Act}
@@ -47,7 +46,8 @@ surveyed_by over m s index unfit firsts ons = record {
 -- with one more level
 abbrev pub surveyed : Operation → ℕ → List Act → Survey → Rank → Survey
 surveyed o m acts s l =
-    surveyed_by o.over m s l.index l.unfit (gathered_all o m acts nothing l.firsts) (gathered_all o m acts nothing l.ons)
+    surveyed_by o.over m s l.index l.unfit
+    (gathered_all o m acts nothing l.firsts) (gathered_all o m acts nothing l.ons)
 
 -- with all these levels
 abbrev pub surveyed_all : Operation → ℕ → List Act → Survey → List Rank → Survey
@@ -69,15 +69,13 @@ abbrev pub rank_over : Kind → History → Level → Rank
 rank_over kind before l = record {
   index = l.index;
   unfit = is_unfit kind before l.devices;
-  firsts = if is_unfit kind before l.devices then [] else firsts_over (is_split_over kind l.devices) kind before l.index 0 l.devices;
-  ons = if is_unfit kind before l.devices then [] else (if is_split_over kind l.devices then ons_over kind before l.index 0 l.devices else []);
+  firsts =
+      if is_unfit kind before l.devices then []
+      else firsts_over (is_split_over kind l.devices) kind before l.index 0 l.devices;
+  ons =
+      if is_unfit kind before l.devices then []
+      else (if is_split_over kind l.devices then ons_over kind before l.index 0 l.devices else []);
 }
-
--- what the levels that a scope speaks of are for
-abbrev pub scoped_target : Scope → List ℕ → History → Option LevelTarget
-scoped_target Scope.Nothing target h = None
-scoped_target Scope.Name target h = Some (LevelTarget.Name target)
-scoped_target (Scope.Pattern n) target h = elim (pattern_at n h) [ None ↦ None | Some text ↦ Some (LevelTarget.Pattern text) ]
 
 -- the levels of an operation, as its slots are
 abbrev pub ranks_for : Kind → History → List Level → List Rank

@@ -3,8 +3,8 @@ use Rattle.std.specs.Prelude.{ℕ, List, [], ◌∷◌, Bool, false, ◌||◌, �
 use Rattle.std.specs.Option.{option_or}
 use Rattle.fnc_journal.specs.Slots.{Task, Operation}
 use Rattle.fnc_journal.specs.Acts.{Act}
-use Rattle.fnc_judge.specs.declared.seen.Seen.{Seen}
-use Rattle.fnc_judge.specs.Seen.{seen_of, confirmed_by, spent_by, concluded_by, concluded_at_by}
+use Rattle.fnc_search.specs.declared.seen.Seen.{Seen}
+use Rattle.fnc_search.specs.Seen.{seen_of, confirmed_by, spent_by, concluded_by, concluded_at_by}
 
 -- the first slot that is not confirmed, the first that is not concluded, whether one is spent and not
 -- confirmed, and the last moment at which one was concluded

@@ -2,25 +2,23 @@
 
 ghost use Rattle.std.specs.Prelude.{◌≡◌, ◌<◌, ◌^◌, ◌-◌, ◌&&◌, [], ◌∷◌, Some, None, is_some, option_map, max};
 ghost use Rattle.fnc_journal.specs.Acts as Acts;
-ghost use Rattle.fnc_journal.specs.Device as Devices;
 ghost use Rattle.fnc_journal.specs.Due as Dues;
 ghost use Rattle.fnc_journal.specs.Plan as Plan;
 ghost use Rattle.fnc_journal.specs.Slots as Slots;
 ghost use Rattle.fnc_journal.specs.Standing as Standing;
 ghost use Rattle.fnc_judge.specs.Courses as Courses;
-ghost use Rattle.fnc_judge.specs.Pursued.{candidates_of};
-ghost use Rattle.fnc_judge.specs.Pursued as Pursued;
-ghost use Rattle.fnc_judge.specs.Seen.{last_of};
+ghost use Rattle.fnc_search.specs.Pursued.{candidates_of};
+ghost use Rattle.fnc_search.specs.Pursued as Pursued;
+ghost use Rattle.fnc_search.specs.Seen.{last_of};
 ghost use Rattle.fnc_judge.specs.Surveys as Surveys;
 
-use crate::candidates::{Candidate, next_candidate, query_of};
 use crate::gathered::Gathered;
-use crate::past::Past;
-use crate::pursued::Operation;
-use crate::seen::{Last, looked_at};
 use crate::survey::{Survey, survey_levels};
-use crate::task::{Device, Task, act_task, device_of};
 use fnc_journal::{Kind, Phase, Scope};
+use fnc_search::{
+    Candidate, Device, Last, Operation, Past, Task, act_task, device_of, looked_at, next_candidate,
+    query_of,
+};
 use std::marker::Model;
 
 /// What is gathered of the queries, and of the capable candidates as levels, of which the next has
@@ -40,16 +38,19 @@ impl<'a> Model for Course<'a> {
     ghost view = { λ c. record { queries = c.queries; survey = c.survey; index = c.index } };
 }
 
-#[tactic(auto, using(crate::proofs::Looks::answered_same))]
+#[tactic(auto, using(fnc_search::proofs::Looks::answered_same))]
 fn is_answered(operation: &Operation<'_>, past: &Past<'_>, task: &Task<'_>) -> bool
-    ensures { result ≡ Standing.capable_query (Pursued.operation operation.now) (Acts.acts operation.now.req past.now) (Some task.now) }
+    ensures { result
+        ≡ Standing.capable_query (Pursued.operation operation.now) (Acts.acts operation.now.req past.now)
+        (Some task.now) }
 {
     let seen = looked_at(past, operation.req(), task, operation.over());
-    capable_by(task.kind, seen.listed, seen.is_answered(task))
+    capable_by(task.kind(), seen.listed, seen.is_answered(task))
 }
 
 fn is_capable(operation: &Operation<'_>, past: &Past<'_>, query: &Option<Task<'_>>) -> bool
-    ensures { result ≡ Standing.capable_query (Pursued.operation operation.now) (Acts.acts operation.now.req past.now) query.now }
+    ensures { result
+        ≡ Standing.capable_query (Pursued.operation operation.now) (Acts.acts operation.now.req past.now) query.now }
 {
     match query {
         None => true,
@@ -75,7 +76,9 @@ fn with_device<'a>(
     index: u64,
     device: &Device<'a>,
 ) -> Survey<'a>
-    ensures { result ≡ Surveys.surveyed (Pursued.operation operation.now) moment (Acts.acts operation.now.req past.now) survey.entry (Slots.rank operation.now.asked.kind index (Some device.now ∷ [])) }
+    ensures { result
+        ≡ Surveys.surveyed (Pursued.operation operation.now) moment (Acts.acts operation.now.req past.now)
+        survey.entry (Slots.rank operation.now.asked.kind index (Some device.now ∷ [])) }
 {
     let task = act_task(false, operation.kind(), index, 0, device);
     let acting = Gathered::nothing().with(operation, moment, past, &task);
@@ -118,7 +121,9 @@ impl<'a> Course<'a> {
         query: Option<Task<'a>>,
     ) -> Course<'a>
         requires { self.index < 2 ^ 64 - 1 }
-        ensures { result ≡ Courses.coursed (Pursued.operation operation.now) moment (Acts.acts operation.now.req past.now) self.entry (record { device = device.now; query = query.entry }) }
+        ensures { result
+            ≡ Courses.coursed (Pursued.operation operation.now) moment (Acts.acts operation.now.req past.now)
+            self.entry (record { device = device.now; query = query.entry }) }
     {
         if is_capable(operation, past, &query) {
             Course {
@@ -145,10 +150,12 @@ impl<'a> Course<'a> {
         candidate: &Device<'a>,
     ) -> Course<'a>
         requires { self.index < 2 ^ 64 - 1 }
-        ensures { result ≡ Courses.coursed_any (Pursued.operation operation.now) moment (Acts.acts operation.now.req past.now) self.entry (option_map (Slots.queried place (Plan.candidate (Pursued.wanted operation.now) operation.now.asked.before candidate.now).query) (Slots.device_of operation.now.asked.before (Plan.candidate (Pursued.wanted operation.now) operation.now.asked.before candidate.now).reg)) }
+        ensures { result
+            ≡ Courses.coursed_any (Pursued.operation operation.now) moment (Acts.acts operation.now.req past.now)
+            self.entry (Pursued.queried_at operation.now place candidate.now) }
     {
         let query = query_of(operation, candidate);
-        match device_of(&operation.before(), candidate.reg) {
+        match device_of(&operation.before(), candidate.reg()) {
             Some(device) => {
                 let task = queried(place, query, &device);
                 self.with(operation, moment, past, &device, task)
@@ -160,7 +167,9 @@ impl<'a> Course<'a> {
 
 /// What is gathered of the candidates of an operation.
 fn candidates<'a>(operation: &Operation<'a>, moment: u64, past: &Past<'_>) -> Course<'a>
-    ensures { result ≡ Courses.coursed_all (Pursued.operation operation.now) moment (Acts.acts operation.now.req past.now) Courses.start (candidates_of operation.now) }
+    ensures { result
+        ≡ Courses.coursed_all (Pursued.operation operation.now) moment (Acts.acts operation.now.req past.now)
+        Courses.start (candidates_of operation.now) }
 {
     let most = operation.before().len();
     let mut course = Course::start();
@@ -174,7 +183,7 @@ fn candidates<'a>(operation: &Operation<'a>, moment: u64, past: &Past<'_>) -> Co
                     moment,
                     past,
                     place as usize,
-                    &candidate.device,
+                    candidate.device(),
                 );
             }
             None => return course,
@@ -239,7 +248,8 @@ pub(crate) fn standing<'a>(
     moment: u64,
     past: &Past<'_>,
 ) -> Option<Task<'a>>
-    ensures { result ≡ Standing.standing (Pursued.operation operation.now) moment (Acts.acts operation.now.req past.now) }
+    ensures { result
+        ≡ Standing.standing (Pursued.operation operation.now) moment (Acts.acts operation.now.req past.now) }
 {
     standing_by(course_of(operation, moment, past))
 }
@@ -294,7 +304,8 @@ fn due_by(course: &Course<'_>, over: u128, moment: u64) -> Option<Due>
 
 /// The answer that is due to an operation by its acts alone.
 pub(crate) fn due_by_acts(operation: &Operation<'_>, moment: u64, past: &Past<'_>) -> Option<Due>
-    ensures { option_map Courses.answer_of result ≡ Dues.due_by_acts (Pursued.operation operation.now) moment (Acts.acts operation.now.req past.now) }
+    ensures { option_map Courses.answer_of result
+        ≡ Dues.due_by_acts (Pursued.operation operation.now) moment (Acts.acts operation.now.req past.now) }
 {
     due_by(
         &course_of(operation, moment, past),
@@ -313,17 +324,11 @@ fn since_by(course: &Course<'_>, begin: u64) -> u128
 
 /// Since when an operation stands where it stands.
 fn since(operation: &Operation<'_>, moment: u64, past: &Past<'_>) -> u128
-    ensures since { result ≡ Standing.since (Pursued.operation operation.now) moment (Acts.acts operation.now.req past.now) }
+    ensures since { result
+        ≡ Standing.since (Pursued.operation operation.now) moment (Acts.acts operation.now.req past.now) }
     ensures small { result < 2 ^ 65 }
 {
     since_by(&course_of(operation, moment, past), operation.begin())
-}
-
-fn delay(operation: &Operation<'_>, task: &Task<'_>) -> u64
-    ensures { result ≡ Devices.delay task.now.definition task.now.kind operation.now.asked.target operation.now.asked.coin }
-{
-    task.definition
-        .delay_of(task.kind, operation.target(), operation.coin())
 }
 
 /// When the next try of a slot is ready.
@@ -333,7 +338,8 @@ pub(crate) fn ready(
     past: &Past<'_>,
     task: &Task<'_>,
 ) -> Option<u128>
-    ensures { result ≡ Standing.ready (Pursued.operation operation.now) moment (Acts.acts operation.now.req past.now) task.now }
+    ensures { result
+        ≡ Standing.ready (Pursued.operation operation.now) moment (Acts.acts operation.now.req past.now) task.now }
 {
     let seen = looked_at(past, operation.req(), task, operation.over());
     ready_after(operation, moment, past, task, seen.last)
@@ -346,12 +352,13 @@ fn ready_after(
     task: &Task<'_>,
     last: Last,
 ) -> Option<u128>
-    ensures { (l : Acts.Last) → last ≡ last_of l → result ≡ Standing.ready_after (Pursued.operation operation.now) moment (Acts.acts operation.now.req past.now) task.now l }
+    ensures { (l : Acts.Last) → last ≡ last_of l → result ≡ Standing.ready_after (Pursued.operation operation.now)
+        moment (Acts.acts operation.now.req past.now) task.now l }
 {
     match last {
         Last::NoRun => {
-            let delay = u128::from(delay(operation, task));
-            Some(since(operation, moment, past) + delay)
+            let delay = task.delay(operation.target(), operation.coin());
+            Some(since(operation, moment, past) + u128::from(delay))
         }
         Last::Alive(_) => None,
         Last::EndedAt(at) => Some(u128::from(at)),

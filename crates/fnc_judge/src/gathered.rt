@@ -3,13 +3,10 @@
 ghost use Rattle.std.specs.Prelude.{◌≡◌, if◌then◌else◌, Some, None};
 ghost use Rattle.std.specs.Option.{option_or};
 ghost use Rattle.fnc_journal.specs.Acts.{acts};
-ghost use Rattle.fnc_judge.specs.Pursued as Pursued;
+ghost use Rattle.fnc_search.specs.Pursued as Pursued;
 ghost use Rattle.fnc_judge.specs.Tours as Tours;
 
-use crate::past::Past;
-use crate::pursued::Operation;
-use crate::seen::{Seen, looked_at};
-use crate::task::Task;
+use fnc_search::{Operation, Past, Seen, Task, looked_at};
 use std::marker::Model;
 
 /// The first slot that is not confirmed, the first that is not concluded, whether one is spent and
@@ -30,7 +27,12 @@ impl<'a> Model for Gathered<'a> {
 
     ghost invariant = { λ g. g.greatest < 2 ^ 65 };
 
-    ghost view = { λ g. record { unconfirmed = g.unconfirmed; unconcluded = g.unconcluded; lost = g.lost; greatest = g.greatest } };
+    ghost view = { λ g. record {
+      unconfirmed = g.unconfirmed;
+      unconcluded = g.unconcluded;
+      lost = g.lost;
+      greatest = g.greatest;
+    } };
 }
 
 fn first_of<'a>(earlier: Option<Task<'a>>, passes: bool, task: &Task<'a>) -> Option<Task<'a>>
@@ -81,7 +83,9 @@ impl<'a> Gathered<'a> {
         past: &Past<'_>,
         task: &Task<'a>,
     ) -> Gathered<'a>
-        ensures { result ≡ Tours.gathered (Pursued.operation operation.now) moment (acts operation.now.req past.now) self.entry task.now }
+        ensures { result
+            ≡ Tours.gathered (Pursued.operation operation.now) moment (acts operation.now.req past.now) self.entry
+            task.now }
     {
         let seen = looked_at(past, operation.req(), task, operation.over());
         self.with_seen(task, seen, moment, operation.begin())
@@ -95,7 +99,9 @@ impl<'a> Gathered<'a> {
         past: &Past<'_>,
         task: Option<Task<'a>>,
     ) -> Gathered<'a>
-        ensures { result ≡ Tours.gathered_any (Pursued.operation operation.now) moment (acts operation.now.req past.now) self.entry task.entry }
+        ensures { result
+            ≡ Tours.gathered_any (Pursued.operation operation.now) moment (acts operation.now.req past.now) self.entry
+            task.entry }
     {
         match task {
             Some(task) => self.with(operation, moment, past, &task),

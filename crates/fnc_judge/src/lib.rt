@@ -1,27 +1,17 @@
-// The judge of journals: the first entry that breaks a rule, and the rule. It searches the journal
-// from its oldest entry on for each thing that a definition speaks of, and takes no memory.
+// The judge of journals: the first entry that breaks a rule, and the rule. For each entry it gathers anew
+// where each open operation stands, what is due to it, and which start comes first. It takes no memory.
 #![tactic(auto)]
 
-mod candidates;
 mod course;
-mod found;
 mod gathered;
-mod kept;
-mod level;
 mod numbers;
-mod past;
-mod planned;
-mod pursued;
-mod registered;
+mod ordered;
 mod requests;
 mod rules;
-mod seen;
 mod startable;
 mod survey;
-mod task;
-#[cfg(test)]
-mod tests;
 mod verdict;
 
-pub use planned::{is_in_order, is_plan};
+pub use fnc_search::is_plan;
+pub use ordered::is_in_order;
 pub use verdict::{Verdict, judge};

@@ -3,8 +3,8 @@
 ghost use Rattle.std.specs.Prelude.{◌≡◌, ◌<◌, ◌^◌, ◌-◌};
 ghost use Rattle.fnc_judge.specs.Numbers.{IsBelow, numbered, numbers_of};
 
-use crate::past::Past;
 use fnc_journal::Event;
+use fnc_search::Past;
 
 /// The number of the next registration, request and run.
 #[derive(Clone, Copy, Debug)]

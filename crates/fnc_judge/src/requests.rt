@@ -1,6 +1,7 @@
 // The requests that wait, the operations that are open, and the answers that are due to them.
 
-ghost use Rattle.std.specs.Prelude.{◌≡◌, ◌||◌, ◌<◌, ◌-◌, if◌then◌else◌, false, find, is_none, is_some, option_map, unwrap_or};
+ghost use Rattle.std.specs.Prelude.{◌≡◌, ◌||◌, ◌<◌, ◌-◌, if◌then◌else◌, false, find, is_none, is_some, option_map};
+ghost use Rattle.std.specs.Prelude.{unwrap_or};
 ghost use Rattle.fnc_journal.specs.Acts.{acts};
 ghost use Rattle.fnc_journal.specs.Device as Devices;
 ghost use Rattle.fnc_journal.specs.Due as Dues;
@@ -8,22 +9,20 @@ ghost use Rattle.fnc_journal.specs.Missing.{first_of};
 ghost use Rattle.fnc_journal.specs.Operations as Operations;
 ghost use Rattle.fnc_journal.specs.Same.{same_kind};
 ghost use Rattle.fnc_judge.specs.Courses.{answer_of};
-ghost use Rattle.fnc_judge.specs.Opened.{found_after, opened, opens, pursued_of, waiting, waiting_here};
-ghost use Rattle.fnc_judge.specs.Pursued as Pursued;
+ghost use Rattle.fnc_judge.specs.Opened.{found_after, opened, opens, waiting, waiting_here};
+ghost use Rattle.fnc_search.specs.Pursued.{pursued_of};
+ghost use Rattle.fnc_search.specs.Pursued as Pursued;
 
 use crate::course::{Due, due_by_acts, standing};
-use crate::found::{is_answered, request};
-use crate::past::Past;
-use crate::pursued::Operation;
-use crate::task::Task;
-use fnc_journal::{Confirmation, Event, Kind, Phase, Request};
+use fnc_journal::{Event, Kind, Phase};
+use fnc_search::{Operation, Past, Task, is_answered, operation_of, request};
 
 fn confirms(operation: &Operation<'_>, before: &Past<'_>, event: &Event) -> bool
     ensures { result ≡ Dues.confirms (Pursued.operation operation.now) before.now event.now }
 {
     match event {
-        Event::Confirm(Confirmation { target, .. }) => {
-            target.is(operation.target()) && request(before, operation.req()).is_some()
+        Event::Confirm(confirmation) => {
+            confirmation.target.is(operation.target()) && request(before, operation.req()).is_some()
         }
         _ => false,
     }
@@ -75,11 +74,14 @@ fn request_here(event: &Event, req: u32) -> Option<u32>
     ensures { result ≡ Operations.request_here req event.now }
 {
     match event {
-        Event::Ask(Request {
-            req: number,
-            lead,
-            ..
-        }) => { if req == lead.0 { Some(number.0) } else { None } }
+        Event::Ask(request) => {
+            let request = request.get();
+            if req == request.lead.0 {
+                Some(request.req.0)
+            } else {
+                None
+            }
+        }
         _ => None,
     }
 }
@@ -114,23 +116,18 @@ pub(crate) fn is_open(past: &Past<'_>, req: u32) -> bool
     first_waiting(past, req).is_some()
 }
 
-/// The operation of a number.
-pub(crate) fn operation_of<'a>(past: &Past<'a>, req: u32) -> Option<Operation<'a>>
-    ensures { result ≡ pursued_of req past.now }
-{
-    let asked = request(past, req)?;
-    if req == asked.lead {
-        Some(Operation::new(req, asked))
-    } else {
-        None
-    }
-}
-
 fn operation_here(event: &Event) -> Option<u32>
     ensures { result ≡ Operations.operation_here event.now }
 {
     match event {
-        Event::Ask(Request { req, lead, .. }) => { if req.0 == lead.0 { Some(req.0) } else { None } }
+        Event::Ask(request) => {
+            let request = request.get();
+            if request.req.0 == request.lead.0 {
+                Some(request.req.0)
+            } else {
+                None
+            }
+        }
         _ => None,
     }
 }
@@ -203,7 +200,7 @@ fn is_on(task: &Option<Task<'_>>) -> bool
     ensures { result ≡ unwrap_or (option_map Operations.is_on task.now) false }
 {
     match task {
-        Some(task) => task.phase.is(Phase::On),
+        Some(task) => task.phase().is(Phase::On),
         None => false,
     }
 }
@@ -229,7 +226,9 @@ fn joinable_among<'a>(
     target: &str,
     here: Option<Operation<'a>>,
 ) -> Option<Operation<'a>>
-    ensures { result ≡ found_after (λ p. Operations.is_joinable past.now moment kind target.now (Pursued.operation p)) None here.entry }
+    ensures { result
+        ≡ found_after (λ p. Operations.is_joinable past.now moment kind target.now (Pursued.operation p)) None
+        here.entry }
 {
     let operation = here?;
     if is_joinable(past, moment, kind, target, &operation) {
@@ -245,7 +244,9 @@ fn find_joinable<'a>(
     kind: Kind,
     target: &str,
 ) -> Option<Operation<'a>>
-    ensures { result ≡ find (λ p. Operations.is_joinable past.now moment kind target.now (Pursued.operation p)) (opens past.now past.now) }
+    ensures { result
+        ≡ find (λ p. Operations.is_joinable past.now moment kind target.now (Pursued.operation p))
+        (opens past.now past.now) }
 {
     for i in 0..past.len() {
         let here = opened_by(past, &past.entry(i).event);

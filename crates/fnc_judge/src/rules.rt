@@ -1,146 +1,24 @@
 // The rules that each entry of a lawful journal keeps, each tested for one entry and those before it.
 
-ghost use Rattle.std.specs.Prelude.{◌≡◌, ◌+◌, ◌<◌, ◌^◌, ◌-◌, ◌&&◌, if◌then◌else◌, false, Some, is_some, option_map, unwrap_or};
+ghost use Rattle.std.specs.Prelude.{◌≡◌, ◌+◌, ◌<◌, ◌^◌, ◌-◌, ◌&&◌, if◌then◌else◌, false, option_map, unwrap_or};
 ghost use Rattle.std.specs.Option.{option_copied};
 ghost use Rattle.fnc_journal.specs.Acts as Acts;
 ghost use Rattle.fnc_journal.specs.Found as Found;
 ghost use Rattle.fnc_journal.specs.Lawful as Lawful;
-ghost use Rattle.fnc_journal.specs.Levels as Levels;
-ghost use Rattle.fnc_journal.specs.Missing as Missing;
 ghost use Rattle.fnc_journal.specs.Operations as Operations;
 ghost use Rattle.fnc_journal.specs.Same as Same;
 ghost use Rattle.fnc_journal.specs.Startable as Starts;
 ghost use Rattle.fnc_judge.specs.Courses.{answer_of};
-ghost use Rattle.fnc_judge.specs.Pursued as Pursued;
-ghost use Rattle.fnc_judge.specs.Testing.{is_start_with, moment_by, pending_after, runs_here};
+ghost use Rattle.fnc_search.specs.Pursued as Pursued;
+ghost use Rattle.fnc_judge.specs.Testing.{is_start_with, lead_for, pending_after, replied_as, runs_here, started_as};
 
 use crate::course::Due;
-use crate::found::{has_exit, is_answered, lead, registration, request, start_of};
-use crate::level::{Target, level_of, oldest, stands};
-use crate::numbers::counted;
-use crate::past::Past;
-use crate::pursued::Operation;
-use crate::registered::is_current;
-use crate::requests::{
-    due_to, first_due, first_waiting, is_open, joined, operation_of, same_kind_as, settled,
-};
+use crate::ordered::{last, last_moment, order};
+use crate::requests::{due_to, first_due, first_waiting, is_open, joined, same_kind_as, settled};
 use crate::startable::{Startable, first};
-use crate::survey::pattern_at;
-use fnc_journal::{Answer, Ended, Entry, Event, Kind, LevelCleared, Registered, Reply, Request, Rule, Scope, Slot, Start};
+use fnc_journal::{Answer, Entry, Event, Reply, Request, Rule, Slot, Start};
+use fnc_search::{Operation, Past, has_exit, is_answered, lead, start_of};
 use std::marker::Model;
-
-/// The last entry.
-fn last<'a>(past: &Past<'a>) -> Option<&'a Entry>
-    ensures { option_copied result ≡ Missing.first_of past.now }
-{
-    let len = past.len();
-    if len == 0 {
-        None
-    } else {
-        Some(past.entry(len - 1))
-    }
-}
-
-fn moment_of(entry: Option<&Entry>) -> u64
-    ensures { result ≡ moment_by (option_copied entry.entry) }
-{
-    match entry {
-        Some(entry) => entry.moment,
-        None => 0,
-    }
-}
-
-/// The last moment, 0 before the first entry.
-fn last_moment(past: &Past<'_>) -> u64
-    ensures { result ≡ Lawful.last_moment past.now }
-{
-    moment_of(last(past))
-}
-
-fn may_ask(kind: Kind) -> bool
-    ensures { result ≡ Lawful.may_ask kind }
-{
-    match kind {
-        Kind::On | Kind::Off | Kind::Reboot => true,
-        _ => false,
-    }
-}
-
-fn has_level(past: &Past<'_>, target: &Target<'_>, index: u32) -> bool
-    ensures { result ≡ Levels.has_level target.now index past.now }
-{
-    level_of(past, target, index).is_some()
-}
-
-fn pattern_oldest(past: &Past<'_>, at: u32) -> Option<u32>
-    ensures { result ≡ Levels.oldest (Levels.pattern_levels at past.now) }
-{
-    match pattern_at(past, at) {
-        Some(text) => oldest(past, &Target::pattern(text)),
-        None => None,
-    }
-}
-
-fn is_in_place(past: &Past<'_>, scope: Scope, target: &str) -> bool
-    ensures { result ≡ Levels.is_in_place scope target.now past.now }
-{
-    let named = stands(past, &Target::name(target));
-    match scope {
-        Scope::Name => named,
-        Scope::Pattern(at) => !named && pattern_oldest(past, at) == Some(at),
-        Scope::Nothing => !named,
-    }
-}
-
-fn is_operation(past: &Past<'_>, req: u32) -> bool
-    ensures { result ≡ is_some (Operations.operation req past.now) }
-{
-    operation_of(past, req).is_some()
-}
-
-/// Whether the numbers, references and scope of an entry are in place.
-pub(crate) fn in_order(event: &Event, past: &Past<'_>) -> bool
-    ensures { result ≡ Lawful.in_order event.now past.now }
-{
-    match event {
-        Event::Device(Registered { reg, .. }) => reg.0 == counted(past).devices,
-        Event::Gone { reg } => is_current(past, reg.0),
-        Event::LevelGone(LevelCleared { target, index }) => {
-            has_level(past, &Target::of(target), u32::from(*index))
-        }
-        Event::Ask(Request {
-            req,
-            kind,
-            target,
-            total,
-            scope,
-            ..
-        }) => {
-            req.0 == counted(past).asks
-                && may_ask(*kind)
-                && 1 <= *total
-                && *total <= 86_400_000
-                && is_in_place(past, *scope, target.as_str())
-        }
-        Event::Exit(Ended { run, .. }) => start_of(past, run.0).is_some(),
-        Event::Start(Start { run, req, reg, .. }) => {
-            run.0 == counted(past).starts
-                && is_operation(past, req.0)
-                && registration(past, reg.0).is_some()
-        }
-        Event::Reply(Reply { req, .. }) => request(past, req.0).is_some(),
-        _ => true,
-    }
-}
-
-/// Moments do not fall and end at 10^15, and the entry is in order.
-pub(crate) fn order(entry: &Entry, past: &Past<'_>) -> bool
-    ensures { result ≡ Lawful.order entry.now past.now }
-{
-    entry.moment <= 1_000_000_000_000_000
-        && last_moment(past) <= entry.moment
-        && in_order(&entry.event, past)
-}
 
 fn is_alive(past: &Past<'_>, run: u32) -> bool
     ensures { result ≡ Starts.is_alive run past.now }
@@ -153,7 +31,7 @@ pub(crate) fn exit(entry: &Entry, past: &Past<'_>) -> bool
     ensures { result ≡ Lawful.exit entry.now past.now }
 {
     match &entry.event {
-        Event::Exit(Ended { run, .. }) => is_alive(past, run.0),
+        Event::Exit(ended) => is_alive(past, ended.run.0),
         _ => true,
     }
 }
@@ -162,11 +40,7 @@ fn is_run_of(event: &Event, req: u32, slot: Slot) -> bool
     ensures { result ≡ runs_here req slot event.now }
 {
     match event {
-        Event::Start(Start {
-            req: other,
-            slot: here,
-            ..
-        }) => req == other.0 && slot.is(*here),
+        Event::Start(start) => req == start.req.0 && slot.is(start.slot),
         _ => false,
     }
 }
@@ -194,31 +68,23 @@ fn runs(past: &Past<'_>, req: u32, slot: Slot) -> u32
 }
 
 impl<'a> Startable<'a> {
-    fn is_with(&self, req: u32, slot: Slot, reg: u32, kind: Kind) -> bool
-        ensures { result ≡ is_start_with req slot reg kind self.now }
+    fn is_with(&self, start: &Start) -> bool
+        ensures { result ≡ is_start_with start.now self.now }
     {
-        req == self.operation.req()
-            && self.task.is_of(slot)
-            && reg == self.task.reg
-            && same_kind_as(kind, self.task.kind)
+        start.req.0 == self.operation.req()
+            && self.task.is_of(start.slot)
+            && start.reg.0 == self.task.reg()
+            && same_kind_as(start.kind, self.task.kind())
     }
 }
 
-fn is_start_of(
-    past: &Past<'_>,
-    req: u32,
-    slot: Slot,
-    reg: u32,
-    kind: Kind,
-    attempt: u8,
-    first: Option<Startable<'_>>,
-) -> bool
-    ensures { result ≡ Lawful.is_start_of req slot reg kind attempt past.now first.entry }
+fn is_start_of(past: &Past<'_>, start: &Start, first: Option<Startable<'_>>) -> bool
+    ensures { result ≡ started_as start.now past.now first.entry }
 {
     match first {
         Some(first) => {
-            first.is_with(req, slot, reg, kind)
-                && u64::from(attempt) == u64::from(runs(past, req, slot)) + 1
+            first.is_with(start)
+                && u64::from(start.attempt) == u64::from(runs(past, start.req.0, start.slot)) + 1
         }
         None => false,
     }
@@ -229,22 +95,7 @@ pub(crate) fn start(entry: &Entry, past: &Past<'_>) -> bool
     ensures { result ≡ Lawful.start entry.now past.now }
 {
     match &entry.event {
-        Event::Start(Start {
-            req,
-            slot,
-            reg,
-            kind,
-            attempt,
-            ..
-        }) => is_start_of(
-            past,
-            req.0,
-            *slot,
-            reg.0,
-            *kind,
-            *attempt,
-            first(past, entry.moment),
-        ),
+        Event::Start(start) => is_start_of(past, start, first(past, entry.moment)),
         _ => true,
     }
 }
@@ -269,12 +120,12 @@ fn pending_of(past: &Past<'_>, entry: &Entry) -> Option<Pending>
     ensures { result ≡ Lawful.pending_of entry.now.moment entry.now.event past.now }
 {
     match &entry.event {
-        Event::Reply(Reply { req, answer }) => {
-            let operation = lead(past, req.0)?;
+        Event::Reply(reply) => {
+            let operation = lead(past, reply.req.0)?;
             if is_open(past, operation) {
                 Some(Pending {
                     operation,
-                    answer: *answer,
+                    answer: reply.answer,
                     moment: entry.moment,
                 })
             } else {
@@ -319,9 +170,9 @@ fn continues(pending: Option<Pending>, entry: &Entry, past: &Past<'_>) -> bool
 {
     match (pending, &entry.event) {
         (None, _) => true,
-        (Some(pending), Event::Reply(Reply { req, answer })) => {
-            lead(past, req.0) == Some(pending.operation)
-                && same_answer(*answer, pending.answer)
+        (Some(pending), Event::Reply(reply)) => {
+            lead(past, reply.req.0) == Some(pending.operation)
+                && same_answer(reply.answer, pending.answer)
                 && entry.moment == pending.moment
         }
         (Some(_), _) => false,
@@ -332,7 +183,7 @@ fn is_first_reply(event: &Event, past: &Past<'_>) -> bool
     ensures { result ≡ Lawful.is_first_reply event.now past.now }
 {
     match event {
-        Event::Reply(Reply { req, .. }) => !is_answered(past, req.0),
+        Event::Reply(reply) => !is_answered(past, reply.req.0),
         _ => true,
     }
 }
@@ -367,7 +218,9 @@ fn is_answered_with(answer: Answer, due: Option<Due>) -> bool
 }
 
 fn is_due_answer(past: &Past<'_>, moment: u64, answer: Answer, operation: &Operation<'_>) -> bool
-    ensures { result ≡ unwrap_or (option_map (Same.same_answer answer) (Operations.due_to past.now moment (Pursued.operation operation.now))) false }
+    ensures { result
+        ≡ unwrap_or (option_map (Same.same_answer answer)
+        (Operations.due_to past.now moment (Pursued.operation operation.now))) false }
 {
     is_answered_with(answer, due_to(past, moment, operation))
 }
@@ -375,25 +228,24 @@ fn is_due_answer(past: &Past<'_>, moment: u64, answer: Answer, operation: &Opera
 fn is_reply_of(
     past: &Past<'_>,
     moment: u64,
-    req: u32,
-    answer: Answer,
+    reply: &Reply,
     operation: Option<Operation<'_>>,
 ) -> bool
-    ensures { result ≡ Lawful.is_reply_of req answer moment past.now (option_map Pursued.operation operation.entry) }
+    ensures { result ≡ replied_as reply.now moment past.now (option_map Pursued.operation operation.entry) }
 {
     match operation {
         Some(operation) => {
-            first_waiting(past, operation.req()) == Some(req)
-                && is_due_answer(past, moment, answer, &operation)
+            first_waiting(past, operation.req()) == Some(reply.req.0)
+                && is_due_answer(past, moment, reply.answer, &operation)
         }
         None => false,
     }
 }
 
-fn is_reply_due(past: &Past<'_>, moment: u64, req: u32, answer: Answer) -> bool
-    ensures { result ≡ Lawful.is_reply_of req answer moment past.now (Operations.first_due past.now moment) }
+fn is_reply_due(past: &Past<'_>, moment: u64, reply: &Reply) -> bool
+    ensures { result ≡ replied_as reply.now moment past.now (Operations.first_due past.now moment) }
 {
-    is_reply_of(past, moment, req, answer, first_due(past, moment))
+    is_reply_of(past, moment, reply, first_due(past, moment))
 }
 
 /// A reply is the one that is due.
@@ -401,7 +253,7 @@ pub(crate) fn reply(entry: &Entry, past: &Past<'_>) -> bool
     ensures { result ≡ Lawful.reply entry.now past.now }
 {
     match &entry.event {
-        Event::Reply(Reply { req, answer }) => is_reply_due(past, entry.moment, req.0, *answer),
+        Event::Reply(reply) => is_reply_due(past, entry.moment, reply),
         _ => true,
     }
 }
@@ -415,23 +267,21 @@ fn number_of(operation: Option<Operation<'_>>, req: u32) -> u32
     }
 }
 
-fn lead_wanted(past: &Past<'_>, moment: u64, kind: Kind, target: &str, req: u32) -> u32
-    ensures { result ≡ unwrap_or (option_map (λ o. o.req) (Operations.joined past.now moment kind target.now)) req }
+fn lead_wanted(past: &Past<'_>, moment: u64, request: &Request) -> u32
+    ensures { result ≡ lead_for request.now moment past.now }
 {
-    number_of(joined(past, moment, kind, target), req)
+    let operation = joined(past, moment, request.kind, request.target.as_str());
+    number_of(operation, request.req.0)
 }
 
 fn leads(entry: &Entry, past: &Past<'_>) -> bool
     ensures { result ≡ Lawful.leads entry.now.event entry.now.moment past.now }
 {
     match &entry.event {
-        Event::Ask(Request {
-            req,
-            lead,
-            kind,
-            target,
-            ..
-        }) => lead.0 == lead_wanted(past, entry.moment, *kind, target.as_str(), req.0),
+        Event::Ask(request) => {
+            let request = request.get();
+            request.lead.0 == lead_wanted(past, entry.moment, request)
+        }
         _ => true,
     }
 }

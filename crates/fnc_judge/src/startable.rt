@@ -4,16 +4,12 @@ ghost use Rattle.std.specs.Prelude.{◌≡◌, ◌&&◌, ◌+◌, ◌<◌, ◌^�
 ghost use Rattle.fnc_journal.specs.Registered.{lane};
 ghost use Rattle.fnc_journal.specs.Startable as Starts;
 ghost use Rattle.fnc_judge.specs.Opened.{counts, counts_here, is_sooner, startable_any};
-ghost use Rattle.fnc_judge.specs.Pursued as Pursued;
+ghost use Rattle.fnc_search.specs.Pursued as Pursued;
 
 use crate::course::{ready, standing};
-use crate::found::has_exit;
-use crate::past::Past;
-use crate::pursued::Operation;
-use crate::registered::lane_of;
 use crate::requests::opened_by;
-use crate::task::Task;
-use fnc_journal::Event;
+use fnc_journal::{Event, Start};
+use fnc_search::{Operation, Past, Task, has_exit, lane_of};
 use std::marker::Model;
 
 /// A start that may be made: an operation, its standing slot, and since when that is ready.
@@ -26,24 +22,24 @@ pub(crate) struct Startable<'a> {
 
 impl<'a> Model for Startable<'a> {
     ghost use Rattle.fnc_journal.specs.Startable as Starts;
-    ghost use Rattle.fnc_judge.specs.Pursued as Pursued;
+    ghost use Rattle.fnc_search.specs.Pursued as Pursued;
 
     ghost Value = { Starts.Startable };
 
     ghost view = { λ s. record { operation = Pursued.operation s.operation; task = s.task; ready = s.ready } };
 }
 
-fn counts_by(past: &Past<'_>, number: u32, run: u32, reg: u32) -> bool
-    ensures { result ≡ counts past.now number (record { run = run; reg = reg }) }
+fn counts_by(past: &Past<'_>, number: u32, start: &Start) -> bool
+    ensures { result ≡ counts past.now number (record { run = start.now.run.0; reg = start.now.reg.0 }) }
 {
-    !has_exit(past, run) && lane_of(past, reg) == number
+    !has_exit(past, start.run.0) && lane_of(past, start.reg.0) == number
 }
 
 fn is_alive_in(past: &Past<'_>, number: u32, event: &Event) -> bool
     ensures { result ≡ counts_here past.now number event.now }
 {
     match event {
-        Event::Start(Start { run, reg, .. }) => counts_by(past, number, run.0, reg.0),
+        Event::Start(start) => counts_by(past, number, start),
         _ => false,
     }
 }
@@ -87,7 +83,9 @@ fn has_place(past: &Past<'_>, task: &Task<'_>) -> bool
 }
 
 fn may_start(past: &Past<'_>, moment: u64, task: &Task<'_>, ready: u128) -> bool
-    ensures { result ≡ (nat_le ready moment && Starts.has_room (Starts.alive (lane task.now.reg past.now) past.now) task.now.definition.cap) }
+    ensures { result
+        ≡ (nat_le ready moment && Starts.has_room (Starts.alive (lane task.now.reg past.now) past.now)
+        task.now.definition.cap) }
 {
     ready <= u128::from(moment) && has_place(past, task)
 }
@@ -111,7 +109,9 @@ fn soonest_ready<'a>(
     task: Task<'a>,
     ready: u128,
 ) -> Option<Startable<'a>>
-    ensures { result ≡ Starts.soonest found.entry (Starts.startable_ready past.now moment (Pursued.operation operation.entry) task.entry (Some ready)) }
+    ensures { result
+        ≡ Starts.soonest found.entry
+        (Starts.startable_ready past.now moment (Pursued.operation operation.entry) task.entry (Some ready)) }
 {
     if is_before(ready, &found) && may_start(past, moment, &task, ready) {
         Some(Startable {
@@ -132,7 +132,9 @@ fn soonest_at<'a>(
     operation: Operation<'a>,
     task: Task<'a>,
 ) -> Option<Startable<'a>>
-    ensures { result ≡ Starts.soonest found.entry (Starts.startable_at past.now moment (Pursued.operation operation.entry) (Some task.entry)) }
+    ensures { result
+        ≡ Starts.soonest found.entry
+        (Starts.startable_at past.now moment (Pursued.operation operation.entry) (Some task.entry)) }
 {
     match ready(&operation, moment, past, &task) {
         Some(ready) => soonest_ready(found, past, moment, operation, task, ready),
@@ -147,7 +149,8 @@ fn soonest_of<'a>(
     moment: u64,
     operation: Operation<'a>,
 ) -> Option<Startable<'a>>
-    ensures { result ≡ Starts.soonest found.entry (Starts.startable past.now moment (Pursued.operation operation.entry)) }
+    ensures { result
+        ≡ Starts.soonest found.entry (Starts.startable past.now moment (Pursued.operation operation.entry)) }
 {
     match standing(&operation, moment, past) {
         Some(task) => soonest_at(found, past, moment, operation, task),

@@ -1,21 +1,22 @@
 // What is gathered of the levels of an operation.
 
 ghost use Rattle.std.specs.Prelude.{◌≡◌, ◌||◌, if◌then◌else◌, Some, None, is_none, option_map, option_and_then};
-ghost use Rattle.std.specs.Option.{option_copied, option_or};
+ghost use Rattle.std.specs.Option.{option_or};
 ghost use Rattle.fnc_journal.specs.Acts.{acts};
 ghost use Rattle.fnc_journal.specs.Levels as Levels;
 ghost use Rattle.fnc_journal.specs.Slots as Slots;
-ghost use Rattle.fnc_judge.specs.Places.{firsts_over, is_unfit, ons_over, placed};
-ghost use Rattle.fnc_judge.specs.Pursued as Pursued;
+ghost use Rattle.fnc_judge.specs.Places.{firsts_over, is_unfit, ons_over};
+ghost use Rattle.fnc_search.specs.Placed.{placed};
+ghost use Rattle.fnc_search.specs.Pursued as Pursued;
 ghost use Rattle.fnc_judge.specs.Surveys as Surveys;
 ghost use Rattle.fnc_judge.specs.Tours as Tours;
 
 use crate::gathered::Gathered;
-use crate::level::{Level, Target, level_of, top_of};
-use crate::past::Past;
-use crate::pursued::Operation;
-use crate::task::{Task, act_task, on_task, placed_at};
-use fnc_journal::{Event, Kind, LevelSet, LevelTarget, Scope, Text};
+use fnc_journal::{Kind, Text};
+use fnc_search::{
+    Level, Operation, Past, Target, Task, act_task, level_of, on_task, placed_at, scoped_target,
+    top_of,
+};
 use std::marker::Model;
 
 /// A level that is not lost: its number, the slot at which it stands, and whether it is done.
@@ -89,7 +90,9 @@ fn firsts<'a>(
     level: u64,
     names: &[Text],
 ) -> Gathered<'a>
-    ensures { result ≡ Tours.gathered_all (Pursued.operation operation.now) moment (acts operation.now.req past.now) Tours.nothing (firsts_over split operation.now.asked.kind operation.now.asked.before level 0 names.now) }
+    ensures { result
+        ≡ Tours.gathered_all (Pursued.operation operation.now) moment (acts operation.now.req past.now) Tours.nothing
+        (firsts_over split operation.now.asked.kind operation.now.asked.before level 0 names.now) }
 {
     let before = operation.before();
     let mut found = Gathered::nothing();
@@ -115,7 +118,9 @@ fn ons<'a>(
     level: u64,
     names: &[Text],
 ) -> Gathered<'a>
-    ensures { result ≡ Tours.gathered_all (Pursued.operation operation.now) moment (acts operation.now.req past.now) Tours.nothing (ons_over operation.now.asked.kind operation.now.asked.before level 0 names.now) }
+    ensures { result
+        ≡ Tours.gathered_all (Pursued.operation operation.now) moment (acts operation.now.req past.now) Tours.nothing
+        (ons_over operation.now.asked.kind operation.now.asked.before level 0 names.now) }
 {
     let before = operation.before();
     let mut found = Gathered::nothing();
@@ -194,10 +199,12 @@ impl<'a> Survey<'a> {
         past: &Past<'_>,
         level: Level<'a>,
     ) -> Survey<'a>
-        ensures { result ≡ Surveys.surveyed (Pursued.operation operation.now) moment (acts operation.now.req past.now) self.entry (Surveys.rank_over operation.now.asked.kind operation.now.asked.before level.entry) }
+        ensures { result
+            ≡ Surveys.surveyed (Pursued.operation operation.now) moment (acts operation.now.req past.now) self.entry
+            (Surveys.rank_over operation.now.asked.kind operation.now.asked.before level.entry) }
     {
-        let names = level.devices.as_slice();
-        let index = u64::from(level.index);
+        let names = level.devices().as_slice();
+        let index = u64::from(level.index());
         let unfit = has_unfit(operation.kind(), &operation.before(), names);
         let split = is_split(operation.kind(), names);
         let acting = if unfit {
@@ -221,7 +228,10 @@ impl<'a> Survey<'a> {
         past: &Past<'_>,
         level: Option<Level<'a>>,
     ) -> Survey<'a>
-        ensures { result ≡ Surveys.surveyed_any (Pursued.operation operation.now) moment (acts operation.now.req past.now) self.entry (option_map (Surveys.rank_over operation.now.asked.kind operation.now.asked.before) level.entry) }
+        ensures { result
+            ≡ Surveys.surveyed_any (Pursued.operation operation.now) moment (acts operation.now.req past.now)
+            self.entry
+            (option_map (Surveys.rank_over operation.now.asked.kind operation.now.asked.before) level.entry) }
     {
         match level {
             Some(level) => self.with_level(operation, moment, past, level),
@@ -239,7 +249,9 @@ fn kept_after<'a>(
     firsts: Gathered<'a>,
     ons: Gathered<'a>,
 ) -> Option<Kept<'a>>
-    ensures { result ≡ option_or earlier.entry (if unfit || firsts.entry.lost then None else Some (Surveys.kept_by over moment index firsts.entry ons.entry)) }
+    ensures { result
+        ≡ option_or earlier.entry (if unfit || firsts.entry.lost then None else Some
+        (Surveys.kept_by over moment index firsts.entry ons.entry)) }
 {
     match earlier {
         Some(kept) => Some(kept),
@@ -282,7 +294,10 @@ fn survey_target<'a>(
     past: &Past<'_>,
     target: &Target<'_>,
 ) -> Survey<'a>
-    ensures { result ≡ Surveys.surveyed_all (Pursued.operation operation.now) moment (acts operation.now.req past.now) Surveys.none (Surveys.ranks_for operation.now.asked.kind operation.now.asked.before (Levels.levels target.now operation.now.asked.before)) }
+    ensures { result
+        ≡ Surveys.surveyed_all (Pursued.operation operation.now) moment (acts operation.now.req past.now) Surveys.none (
+        Surveys.ranks_for operation.now.asked.kind operation.now.asked.before
+        (Levels.levels target.now operation.now.asked.before)) }
 {
     let before = operation.before();
     let mut survey = Survey::none();
@@ -293,54 +308,15 @@ fn survey_target<'a>(
     survey
 }
 
-fn pattern_of(event: &Event) -> Option<&str>
-    ensures { option_copied result ≡ Levels.pattern_here event.now }
-{
-    match event {
-        Event::Level(LevelSet {
-            target: LevelTarget::Pattern(text),
-            ..
-        }) => Some(text.as_str()),
-        _ => None,
-    }
-}
-
-/// The pattern of the level that is the entry of a number.
-pub(crate) fn pattern_at<'a>(past: &Past<'a>, at: u32) -> Option<&'a str>
-    ensures { option_copied result ≡ Levels.pattern_at at past.now }
-{
-    if at < past.len() {
-        pattern_of(&past.entry(at).event)
-    } else {
-        None
-    }
-}
-
-/// What the levels that a scope speaks of are for.
-pub(crate) fn scoped_target<'a>(
-    scope: Scope,
-    target: &'a str,
-    before: &Past<'a>,
-) -> Option<Target<'a>>
-    ensures { result ≡ Surveys.scoped_target scope target.now before.now }
-{
-    match scope {
-        Scope::Nothing => None,
-        Scope::Name => Some(Target::name(target)),
-        Scope::Pattern(at) => {
-            let text = pattern_at(before, at)?;
-            Some(Target::pattern(text))
-        }
-    }
-}
-
 /// What is gathered of the levels of an operation's plan.
 pub(crate) fn survey_levels<'a>(
     operation: &Operation<'a>,
     moment: u64,
     past: &Past<'_>,
 ) -> Survey<'a>
-    ensures { result ≡ Surveys.surveyed_all (Pursued.operation operation.now) moment (acts operation.now.req past.now) Surveys.none (Pursued.operation operation.now).levels }
+    ensures { result
+        ≡ Surveys.surveyed_all (Pursued.operation operation.now) moment (acts operation.now.req past.now) Surveys.none
+        (Pursued.operation operation.now).levels }
 {
     match scoped_target(operation.scope(), operation.target(), &operation.before()) {
         Some(target) => survey_target(operation, moment, past, &target),

@@ -4,9 +4,9 @@ ghost use Rattle.std.specs.Prelude.{◌≡◌, ◌↔◌};
 ghost use Rattle.fnc_journal.specs.Lawful.{Lawful, fault};
 ghost use Rattle.fnc_judge.specs.Verdicts.{IsLawful, fault_of};
 
-use crate::past::Past;
 use crate::rules::broken;
 use fnc_journal::{Journal, Rule};
+use fnc_search::Past;
 
 /// What is said of a journal: that it is lawful, or which entry is the first that breaks a rule, and
 /// the first rule that it breaks.

@@ -1,4 +1,4 @@
--- The devices of the worked journals: what a definition is where the device's line has no option, and with one option or two.
+-- The devices of the worked journals: what a definition is where the device's line has no option, and with one or two.
 use Prim.Native.String.{String as Quoted}
 use Rattle.std.specs.Prelude.{ℕ, [], ◌∷◌, true, false, Some, None, codes, pos}
 use Rattle.fnc_journal.specs.declared.definition.Actions.{Actions}

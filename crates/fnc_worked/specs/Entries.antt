@@ -26,7 +26,10 @@ journal entries = reverse entries
 -- `device REG NAME` and the definition
 abbrev pub device : ℕ → Quoted → Definition → Event
 device reg name definition =
-    Event.Device (record { reg = record { 0 = reg }; registration = record { name = codes name; agent = codes "fence_model"; definition = definition } })
+    Event.Device (record {
+      reg = record { 0 = reg };
+      registration = record { name = codes name; agent = codes "fence_model"; definition = definition };
+    })
 
 -- `gone REG`
 abbrev pub gone : ℕ → Event
@@ -50,12 +53,25 @@ unlevel index target = Event.LevelGone (record { target = target; index = index 
 
 -- `agent NAME` with these actions and no parameters
 abbrev pub agent : Quoted → Actions → Event
-agent name actions = Event.Agent (record { name = codes name; description = record { actions = actions; parameters = []; target = None } })
+agent name actions =
+    Event.Agent (record {
+      name = codes name;
+      description = record { actions = actions; parameters = []; target = None };
+    })
 
 -- `ask REQ LEAD CLIENT KIND TARGET TOTAL COIN SCOPE`
 abbrev pub ask : ℕ → ℕ → Quoted → Kind → Quoted → ℕ → ℕ → Scope → Event
 ask req lead client kind target total coin scope =
-    Event.Ask (record { req = record { 0 = req }; lead = record { 0 = lead }; client = codes client; kind = kind; target = codes target; total = total; coin = coin; scope = scope })
+    Event.Ask (record {
+      req = record { 0 = req };
+      lead = record { 0 = lead };
+      client = codes client;
+      kind = kind;
+      target = codes target;
+      total = total;
+      coin = coin;
+      scope = scope;
+    })
 
 -- `exit RUN CODE LISTED`
 abbrev pub exit : ℕ → ℕ → Bool → Event
@@ -76,7 +92,14 @@ refused line cause = Event.Refused (record { line = line; cause = cause })
 -- `start RUN REQ PHASE LEVEL PLACE REG KIND ATTEMPT`
 abbrev pub start : ℕ → ℕ → Phase → ℕ → ℕ → ℕ → Kind → ℕ → Event
 start run req phase level place reg kind attempt =
-    Event.Start (record { run = record { 0 = run }; req = record { 0 = req }; slot = record { phase = phase; level = level; place = place }; reg = record { 0 = reg }; kind = kind; attempt = attempt })
+    Event.Start (record {
+      run = record { 0 = run };
+      req = record { 0 = req };
+      slot = record { phase = phase; level = level; place = place };
+      reg = record { 0 = reg };
+      kind = kind;
+      attempt = attempt;
+    })
 
 -- `reply REQ ANSWER`
 abbrev pub reply : ℕ → Answer → Event

@@ -1,5 +1,5 @@
--- How many entries are owed along a session: to each open operation, a reply for each of its requests and two entries for
--- each try that it has left; and an exit for each run that is alive.
+-- How many entries are owed along a session: to each open operation, a reply for each of its requests and two
+-- entries for each try that it has left; and an exit for each run that is alive.
 use Rattle.std.specs.Prelude.{ℕ, List, [], ◌∷◌}
 use Rattle.fnc_journal.specs.declared.entry.Entry.{Entry}
 use Rattle.fnc_journal.specs.History.{History}

@@ -9,7 +9,8 @@ use Rattle.fnc_worked.specs.Entries.{◌▸◌, device, ask, start, exit, pass, 
 use Rattle.fnc_worked.specs.Devices.{plain}
 use Rattle.fnc_worked.specs.Sessions.{Session}
 
--- of a run that is over, of a run that never was, of a limit, a past moment, a verb, an action, a device, and of an empty line
+-- of a run that is over, of a run that never was, of a limit, a past moment, a verb, an action, a device,
+-- and of an empty line
 abbrev pub refusals : Session
 refusals = record {
   entries =

@@ -5,7 +5,8 @@ use Rattle.fnc_journal.specs.declared.entry.Answer.{Answer}
 use Rattle.fnc_journal.specs.declared.entry.Kind.{Kind}
 use Rattle.fnc_journal.specs.declared.entry.Phase.{Phase}
 use Rattle.fnc_journal.specs.declared.entry.Scope.{Scope}
-use Rattle.fnc_worked.specs.Entries.{◌▸◌, agent, device, gone, name, pattern, level, unlevel, ask, start, exit, refused, reply}
+use Rattle.fnc_worked.specs.Entries.{◌▸◌, agent, device, gone, name, pattern, level, unlevel, ask, start, exit}
+use Rattle.fnc_worked.specs.Entries.{refused, reply}
 use Rattle.fnc_worked.specs.Devices.{plain, off_only, off_actions}
 use Rattle.fnc_worked.specs.Sessions.{Session}
 

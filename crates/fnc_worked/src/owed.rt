@@ -15,8 +15,10 @@ pub fn entries_owed()
     ensures both_fail { owed_along OneDevice.both_fail ≡ 0 ∷ 0 ∷ 5 ∷ 4 ∷ 3 ∷ 2 ∷ 1 ∷ 0 ∷ [] }
     ensures merged { owed_along OneDevice.merged ≡ 0 ∷ 0 ∷ 5 ∷ 4 ∷ 5 ∷ 4 ∷ 3 ∷ 0 ∷ [] }
     ensures unfit { owed_along Topology.unfit ≡ 0 ∷ 0 ∷ 0 ∷ 0 ∷ 5 ∷ 4 ∷ 3 ∷ 0 ∷ [] }
-    ensures split_reboot { owed_along SplitReboots.split_reboot ≡ 0 ∷ 0 ∷ 0 ∷ 0 ∷ 17 ∷ 16 ∷ 15 ∷ 14 ∷ 13 ∷ 12 ∷ 11 ∷ 10 ∷ 9 ∷ 0 ∷ [] }
-    ensures total_in_off_phase { owed_along SplitReboots.total_in_off_phase ≡ 0 ∷ 0 ∷ 0 ∷ 0 ∷ 17 ∷ 16 ∷ 15 ∷ 14 ∷ 1 ∷ 1 ∷ [] }
+    ensures split_reboot { owed_along SplitReboots.split_reboot
+        ≡ 0 ∷ 0 ∷ 0 ∷ 0 ∷ 17 ∷ 16 ∷ 15 ∷ 14 ∷ 13 ∷ 12 ∷ 11 ∷ 10 ∷ 9 ∷ 0 ∷ [] }
+    ensures total_in_off_phase { owed_along SplitReboots.total_in_off_phase
+        ≡ 0 ∷ 0 ∷ 0 ∷ 0 ∷ 17 ∷ 16 ∷ 15 ∷ 14 ∷ 1 ∷ 1 ∷ [] }
     ensures listed { owed_along Queries.listed ≡ 0 ∷ 0 ∷ 0 ∷ 0 ∷ 13 ∷ 12 ∷ 11 ∷ 10 ∷ 9 ∷ 0 ∷ [] }
     ensures not_listed { owed_along Queries.not_listed ≡ 0 ∷ 0 ∷ 0 ∷ 0 ∷ 13 ∷ 12 ∷ 11 ∷ 10 ∷ 9 ∷ 0 ∷ [] }
     ensures kept_yes { owed_along Queries.kept_yes ≡ 0 ∷ 0 ∷ 0 ∷ 9 ∷ 8 ∷ 7 ∷ 6 ∷ 5 ∷ 0 ∷ 5 ∷ 4 ∷ 3 ∷ 0 ∷ 9 ∷ 8 ∷ [] }

@@ -86,6 +86,20 @@ const PLACE_HELD: [&str; 15] = [
     "10003 reply 1 ok 1",
 ];
 
+/// A run of an earlier registration of the name holds the place of the later one.
+const LIMIT_BY_NAME: [&str; 10] = [
+    "0 device 0 d1*",
+    "10 ask 0 0 c1 off n1 600000 0 none",
+    "10 start 0 0 act 1 0 0 off 1",
+    "11 device 1 d1*",
+    "11 ask 1 1 c2 off n2 600000 0 none",
+    "12 exit 0 0 0",
+    "12 reply 0 ok 1",
+    "12 start 1 1 act 1 0 1 off 1",
+    "13 exit 1 0 0",
+    "13 reply 1 ok 1",
+];
+
 /// Two power units cut one after the other, and then switched on.
 const SPLIT_REBOOT: [&str; 13] = [
     "0 device 0 a*",
@@ -137,10 +151,11 @@ const CONFIRMED: [&str; 5] = [
 
 #[test]
 fn the_judge_finds_worked_journals_lawful(rt: HostRuntime) -> Result<(), Fail> {
-    let journals: [&[&str]; 7] = [
+    let journals: [&[&str]; 8] = [
         &ONE_DEVICE,
         &BOTH_FAIL,
         &PLACE_HELD,
+        &LIMIT_BY_NAME,
         &SPLIT_REBOOT,
         &MERGED,
         &QUERY,
@@ -175,7 +190,7 @@ fn unlawful(index: u32, rule: Rule) -> Verdict {
 
 #[test]
 fn the_judge_finds_the_first_entry_that_breaks_a_rule(rt: HostRuntime) -> Result<(), Fail> {
-    let changes: [(&[&str], usize, &str, Verdict); 10] = [
+    let changes: [(&[&str], usize, &str, Verdict); 13] = [
         (
             &ONE_DEVICE,
             2,
@@ -194,6 +209,7 @@ fn the_judge_finds_the_first_entry_that_breaks_a_rule(rt: HostRuntime) -> Result
             "10 start 0 0 act 1 0 0 on 1",
             unlawful(2, Rule::Start),
         ),
+        (&ONE_DEVICE, 3, "9 exit 0 0 0", unlawful(3, Rule::Order)),
         (&ONE_DEVICE, 3, "12 exit 1 0 0", unlawful(3, Rule::Order)),
         (&ONE_DEVICE, 3, "12 exit 0 1 0", unlawful(4, Rule::Reply)),
         (
@@ -202,7 +218,14 @@ fn the_judge_finds_the_first_entry_that_breaks_a_rule(rt: HostRuntime) -> Result
             "60010 exit 0 0 0",
             unlawful(3, Rule::Prompt),
         ),
+        (
+            &ONE_DEVICE,
+            4,
+            "1000000000000001 pass",
+            unlawful(4, Rule::Order),
+        ),
         (&ONE_DEVICE, 4, "12 pass", unlawful(4, Rule::Prompt)),
+        (&ONE_DEVICE, 4, "12 reply 0 ok 2", unlawful(4, Rule::Reply)),
         (
             &ONE_DEVICE,
             4,
@@ -225,7 +248,7 @@ fn the_judge_finds_the_first_entry_that_breaks_a_rule(rt: HostRuntime) -> Result
 
 #[test]
 fn the_judge_knows_places_splits_and_merged_requests(rt: HostRuntime) -> Result<(), Fail> {
-    let changes: [(&[&str], usize, &str, Verdict); 8] = [
+    let changes: [(&[&str], usize, &str, Verdict); 14] = [
         (&PLACE_HELD, 9, "10001 pass", unlawful(10, Rule::Start)),
         (
             &PLACE_HELD,
@@ -239,6 +262,18 @@ fn the_judge_knows_places_splits_and_merged_requests(rt: HostRuntime) -> Result<
             "10002 reply 0 ok 1",
             unlawful(12, Rule::Reply),
         ),
+        (
+            &LIMIT_BY_NAME,
+            5,
+            "11 start 1 1 act 1 0 1 off 1",
+            unlawful(5, Rule::Start),
+        ),
+        (
+            &SPLIT_REBOOT,
+            4,
+            "1 start 0 0 act 1 0 0 reboot 1",
+            unlawful(4, Rule::Start),
+        ),
         (&SPLIT_REBOOT, 6, "2 reply 0 ok 1", unlawful(6, Rule::Reply)),
         (&SPLIT_REBOOT, 8, "3 reply 0 ok 1", unlawful(8, Rule::Reply)),
         (
@@ -247,7 +282,16 @@ fn the_judge_knows_places_splits_and_merged_requests(rt: HostRuntime) -> Result<
             "1 ask 1 1 c2 off n1 600000 0 none",
             unlawful(3, Rule::Prompt),
         ),
+        (&MERGED, 5, "2 reply 1 ok 1", unlawful(5, Rule::Reply)),
+        (&MERGED, 5, "2 pass", unlawful(5, Rule::Prompt)),
         (&MERGED, 6, "2 reply 0 ok 1", unlawful(6, Rule::Once)),
+        (
+            &MERGED,
+            6,
+            "2 reply 1 failed levels",
+            unlawful(6, Rule::Once),
+        ),
+        (&MERGED, 6, "2 pass", unlawful(6, Rule::Once)),
         (&CONFIRMED, 3, "5 confirm op n2", unlawful(4, Rule::Reply)),
     ];
     for (lines, place, line, verdict) in changes {

@@ -2,11 +2,12 @@ use Rattle.std.proofs.Common.{◌≡◌, ◌+◌, sym, ap, ◌∙◌, arith, len
 use Rattle.fnc_journal.specs.Device.{Device}
 use Rattle.fnc_journal.specs.Missing.{first_of}
 use Rattle.fnc_journal.specs.Acts.{acts}
-use Rattle.fnc_judge.specs.declared.candidates.After.{After}
-use Rattle.fnc_judge.specs.Keyed.{Keyed, key, later}
-use Rattle.fnc_judge.specs.Pursued.{operation}
+use Rattle.fnc_search.specs.declared.candidates.After.{After}
+use Rattle.fnc_search.specs.Keyed.{key, later}
+use Rattle.fnc_search.specs.Pursued.{operation, queried_at}
 use Rattle.fnc_judge.specs.Courses.{Course, coursed_all, coursed_any, start}
-use Rattle.fnc_judge.proofs.Queue.{keyed_of, left, left-all, left-more, room-all, room-more, queried_at, index-more}
+use Rattle.fnc_search.proofs.Queue.{keyed_of, left, left-all, room-all, room-more}
+use Rattle.fnc_judge.proofs.Lefts.{left-more, index-more}
 use Rattle.fnc_judge.proofs.course.candidates.Goals as goal
 
 pub loop-place-init : goal.loop-place-init
@@ -31,8 +32,7 @@ loop-place-preserved c =
     let o = c.args.operation.now in
     let xs = acts o.req c.args.past.now in
     let found : first_of (later c.loop-place.after (keyed_of o)) ≡ Some c.in-Some.candidate = sym c.next_candidate.ensures ∙ c.in-Some.is in
-    let device : c.candidate.inside.device ≡ c.in-Some.candidate.device = ap (λ (k : Keyed). k.device) c.candidate.view_is in
-    let more = c.with_candidate-course.ensures ∙ ap (λ (d : Device). coursed_any (operation o) c.args.moment xs c.loop-place.course (queried_at o c.loop-place.place d)) device in
+    let more = c.with_candidate-course.ensures ∙ ap (λ (d : Device). coursed_any (operation o) c.args.moment xs c.loop-place.course (queried_at o c.loop-place.place d)) c.device.ensures in
     let fewer = room-more o c.loop-place.after c.in-Some.candidate found in
     let later-key = ap (λ (k : After). length (later (Some k) (keyed_of o))) c.key.ensures in
     let index = ap (λ (s : Course). s.index) more in

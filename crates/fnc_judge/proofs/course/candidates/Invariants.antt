@@ -1,9 +1,9 @@
 use Rattle.std.proofs.Common.{◌≡◌, ◌≤◌, ◌+◌, length}
 use Rattle.fnc_journal.specs.Acts.{acts}
-use Rattle.fnc_judge.specs.Keyed.{later}
-use Rattle.fnc_judge.specs.Pursued.{operation, candidates_of}
+use Rattle.fnc_search.specs.Keyed.{later}
+use Rattle.fnc_search.specs.Pursued.{operation, candidates_of}
 use Rattle.fnc_judge.specs.Courses.{coursed_all, start}
-use Rattle.fnc_judge.proofs.Queue.{keyed_of, left}
+use Rattle.fnc_search.proofs.Queue.{keyed_of, left}
 use Rattle.fnc_judge.proofs.course.candidates.Given as goal
 
 -- what was gathered so far, with what is left, for which there are entries enough

@@ -3,7 +3,7 @@ use Rattle.fnc_journal.specs.History.{History}
 use Rattle.fnc_journal.specs.Prefix.{prefix}
 use Rattle.fnc_journal.proofs.Prefixes.{prefix-all, prefix-more, prefix-none}
 use Rattle.fnc_judge.specs.Numbers.{IsBelow, numbered, numbers_of}
-use Rattle.fnc_judge.proofs.Prefixed.{prefix-most}
+use Rattle.fnc_search.proofs.Prefixed.{prefix-most}
 use Rattle.fnc_judge.proofs.Counts.{numbers-more, numbers-most}
 use Rattle.fnc_judge.proofs.numbers.counted.Goals as goal
 

@@ -4,9 +4,10 @@ use Rattle.fnc_journal.specs.Prefix.{prefix}
 use Rattle.fnc_journal.proofs.Prefixes.{prefix-all, prefix-none}
 use Rattle.std.specs.Prelude.{find}
 use Rattle.fnc_journal.specs.Operations.{is_joinable}
-use Rattle.fnc_judge.specs.Pursued.{Pursued, operation}
+use Rattle.fnc_search.specs.Pursued.{Pursued, operation}
 use Rattle.fnc_judge.specs.Opened.{found_after, opened, opens}
-use Rattle.fnc_judge.proofs.Searches.{goes-on, stops, open-first, open-kept}
+use Rattle.fnc_search.proofs.Searches.{goes-on, stops}
+use Rattle.fnc_judge.proofs.Waiting.{open-first, open-kept}
 use Rattle.fnc_judge.proofs.requests.find_joinable.Goals as goal
 
 pub loop-i-init : goal.loop-i-init

@@ -2,7 +2,7 @@ use Rattle.std.proofs.Common.{◌≡◌, None}
 use Rattle.fnc_journal.specs.Prefix.{prefix}
 use Rattle.std.specs.Prelude.{find}
 use Rattle.fnc_journal.specs.Operations.{is_joinable}
-use Rattle.fnc_judge.specs.Pursued.{operation}
+use Rattle.fnc_search.specs.Pursued.{operation}
 use Rattle.fnc_judge.specs.Opened.{opens}
 use Rattle.fnc_judge.proofs.requests.find_joinable.Given as goal
 

@@ -1,7 +1,7 @@
 use Rattle.std.proofs.Common.{ap, ◌∙◌}
 use Rattle.std.specs.Prelude.{find, option_map}
 use Rattle.fnc_journal.specs.Operations.{is_due}
-use Rattle.fnc_judge.specs.Pursued.{operation}
+use Rattle.fnc_search.specs.Pursued.{operation}
 use Rattle.fnc_judge.specs.Opened.{opens}
 use Rattle.fnc_judge.proofs.Opening.{find-map, opens-all}
 use Rattle.fnc_judge.proofs.requests.first_due.Goals as goal

@@ -3,7 +3,8 @@ use Rattle.fnc_journal.specs.History.{History}
 use Rattle.fnc_journal.specs.Prefix.{prefix}
 use Rattle.fnc_journal.proofs.Prefixes.{prefix-all, prefix-none}
 use Rattle.fnc_judge.specs.Opened.{waiting, waiting_here}
-use Rattle.fnc_judge.proofs.Searches.{goes-on, stops, waiting-first, waiting-kept}
+use Rattle.fnc_search.proofs.Searches.{goes-on, stops}
+use Rattle.fnc_judge.proofs.Waiting.{waiting-first, waiting-kept}
 use Rattle.fnc_judge.proofs.requests.first_waiting.Goals as goal
 
 pub loop-i-init : goal.loop-i-init

@@ -3,7 +3,7 @@ use Rattle.fnc_journal.specs.History.{History}
 use Rattle.fnc_journal.specs.Prefix.{prefix}
 use Rattle.fnc_journal.proofs.Prefixes.{prefix-all, prefix-more, prefix-none}
 use Rattle.fnc_journal.specs.Due.{is_confirmed, confirms}
-use Rattle.fnc_judge.specs.Pursued.{operation}
+use Rattle.fnc_search.specs.Pursued.{operation}
 use Rattle.fnc_judge.proofs.requests.is_confirmed.Goals as goal
 
 pub loop-i-init : goal.loop-i-init

@@ -4,7 +4,7 @@ use Rattle.fnc_journal.specs.Prefix.{prefix}
 use Rattle.fnc_journal.proofs.Prefixes.{prefix-all, prefix-more, prefix-none}
 use Rattle.fnc_journal.specs.Acts.{acts, runs}
 use Rattle.fnc_judge.specs.Testing.{runs_here}
-use Rattle.fnc_judge.proofs.Prefixed.{prefix-most}
+use Rattle.fnc_search.proofs.Prefixed.{prefix-most}
 use Rattle.fnc_judge.proofs.Testings.{runs-more, runs-most}
 use Rattle.fnc_judge.proofs.rules.runs.Goals as goal
 

@@ -4,7 +4,7 @@ use Rattle.fnc_journal.specs.Prefix.{prefix}
 use Rattle.fnc_journal.proofs.Prefixes.{prefix-all, prefix-more, prefix-none}
 use Rattle.fnc_journal.specs.Startable.{begun_runs}
 use Rattle.fnc_judge.specs.Opened.{alive_in, counts_here}
-use Rattle.fnc_judge.proofs.Prefixed.{prefix-most}
+use Rattle.fnc_search.proofs.Prefixed.{prefix-most}
 use Rattle.fnc_judge.proofs.Opening.{alive-more, alive-most}
 use Rattle.fnc_judge.proofs.startable.alive.Goals as goal
 

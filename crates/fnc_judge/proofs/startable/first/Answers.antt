@@ -4,7 +4,7 @@ use Rattle.fnc_journal.specs.Prefix.{prefix}
 use Rattle.fnc_journal.proofs.Prefixes.{prefix-all, prefix-more, prefix-none}
 use Rattle.std.specs.Prelude.{Option, map}
 use Rattle.fnc_journal.specs.Startable.{Startable, first_among, soonest}
-use Rattle.fnc_judge.specs.Pursued.{Pursued, operation}
+use Rattle.fnc_search.specs.Pursued.{Pursued, operation}
 use Rattle.fnc_judge.specs.Opened.{opened, opens, startable_any}
 use Rattle.fnc_judge.proofs.Opening.{first-more, opens-all}
 use Rattle.fnc_judge.proofs.startable.first.Goals as goal

@@ -2,7 +2,7 @@ use Rattle.std.proofs.Common.{◌≡◌}
 use Rattle.fnc_journal.specs.Prefix.{prefix}
 use Rattle.std.specs.Prelude.{map}
 use Rattle.fnc_journal.specs.Startable.{first_among}
-use Rattle.fnc_judge.specs.Pursued.{operation}
+use Rattle.fnc_search.specs.Pursued.{operation}
 use Rattle.fnc_judge.specs.Opened.{opens}
 use Rattle.fnc_judge.proofs.startable.first.Given as goal
 

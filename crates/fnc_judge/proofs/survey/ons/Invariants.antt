@@ -1,7 +1,7 @@
 use Rattle.std.proofs.Common.{◌≡◌, drop}
 use Rattle.fnc_journal.specs.Acts.{acts}
 use Rattle.fnc_judge.specs.Places.{ons_over}
-use Rattle.fnc_judge.specs.Pursued.{operation}
+use Rattle.fnc_search.specs.Pursued.{operation}
 use Rattle.fnc_judge.specs.Tours.{gathered_all, nothing}
 use Rattle.fnc_judge.proofs.survey.ons.Given as goal
 

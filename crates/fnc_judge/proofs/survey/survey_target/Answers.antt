@@ -3,10 +3,10 @@ use Rattle.std.specs.Prelude.{option_map}
 use Rattle.fnc_journal.specs.History.{History}
 use Rattle.fnc_journal.specs.Acts.{acts}
 use Rattle.fnc_journal.specs.Levels.{Level, levels}
-use Rattle.fnc_judge.specs.Indices.{from, top}
-use Rattle.fnc_judge.specs.Pursued.{operation}
+use Rattle.fnc_search.specs.Indices.{from, top}
+use Rattle.fnc_search.specs.Pursued.{operation}
 use Rattle.fnc_judge.specs.Surveys.{surveyed_all, surveyed_any, ranks_for, rank_over, none}
-use Rattle.fnc_judge.proofs.Rising.{of_index, rising, from-none, from-past, from-more}
+use Rattle.fnc_search.proofs.Rising.{of_index, rising, from-none, from-past, from-more}
 use Rattle.fnc_judge.proofs.Ranks.{survey-next}
 use Rattle.fnc_judge.proofs.survey.survey_target.Goals as goal
 

@@ -1,8 +1,8 @@
 use Rattle.std.proofs.Common.{◌≡◌}
 use Rattle.fnc_journal.specs.Acts.{acts}
 use Rattle.fnc_journal.specs.Levels.{levels}
-use Rattle.fnc_judge.specs.Indices.{from}
-use Rattle.fnc_judge.specs.Pursued.{operation}
+use Rattle.fnc_search.specs.Indices.{from}
+use Rattle.fnc_search.specs.Pursued.{operation}
 use Rattle.fnc_judge.specs.Surveys.{surveyed_all, ranks_for, none}
 use Rattle.fnc_judge.proofs.survey.survey_target.Given as goal
 

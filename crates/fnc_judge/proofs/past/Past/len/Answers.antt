@@ -1,6 +1,0 @@
-use Rattle.std.proofs.Common.{sym, ap, ◌∙◌, length}
-use Rattle.fnc_judge.proofs.Prefixed.{prefix-length}
-use Rattle.fnc_judge.proofs.past.Past.len.Goals as goal
-
-pub returns : goal.returns
-returns c = sym (prefix-length c.self.inside.journal.now.history c.self.inside.len c.self.invariant) ∙ ap length c.self.view_is

@@ -1,6 +1,0 @@
-use Rattle.std.proofs.Common.{◌∙◌, arith}
-use Rattle.fnc_journal.proofs.Prefixes.{prefix-all}
-use Rattle.fnc_judge.proofs.planned.all_of.Goals as goal
-
-pub returns : goal.returns
-returns c = c.of.ensures ∙ prefix-all c.args.journal.now.history c.len.result (omega (arith, c.len.ensures))

@@ -1,0 +1,10 @@
+-- That searches from the oldest entry on find what the definitions of a journal say.
+pub mod Prefixed
+pub mod Searches
+pub mod Leads
+pub mod Rising
+pub mod OldestLevels
+pub mod Looks
+pub mod Ordered
+pub mod Queue
+pub mod Writing

@@ -1,0 +1,80 @@
+// What lies before an entry of a journal.
+
+ghost use Rattle.std.specs.Prelude.{◌≡◌, ◌≤◌, ◌<◌, ◌^◌, Some, length};
+ghost use Rattle.fnc_journal.specs.Found.{entry_at};
+ghost use Rattle.fnc_journal.specs.Prefix.{prefix};
+
+use fnc_journal::{Entry, Journal};
+use std::marker::Model;
+
+/// The first entries of a journal, as many as `len` says. Contracts see the list of them, the newest first.
+#[derive(Drop)]
+pub struct Past<'a> {
+    journal: &'a Journal,
+    len: u32,
+}
+
+impl<'a> Model for Past<'a> {
+    ghost use Rattle.std.specs.Prelude.{◌≤◌, length};
+    ghost use Rattle.fnc_journal.specs.History.{History};
+    ghost use Rattle.fnc_journal.specs.Prefix.{prefix};
+
+    ghost Value = { History };
+
+    ghost view = { λ p. prefix p.len p.journal.now.history };
+
+    ghost invariant = { λ p. p.len ≤ length p.journal.now.history };
+}
+
+impl<'a> Past<'a> {
+    /// The first entries of a journal.
+    pub fn of(journal: &'a Journal, len: u32) -> Past<'a>
+        requires { len ≤ length journal.now.history }
+        ensures { result ≡ prefix len journal.now.history }
+    {
+        Past { journal, len }
+    }
+
+    /// All entries of a journal.
+    pub fn whole(journal: &'a Journal) -> Past<'a>
+        ensures { result ≡ journal.now.history }
+    {
+        Past::of(journal, journal.len())
+    }
+
+    /// How many entries there are.
+    pub fn len(&self) -> u32
+        ensures { result ≡ length self.now }
+    {
+        self.len
+    }
+
+    /// The entry of an index.
+    pub fn entry(&self, index: u32) -> &'a Entry
+        requires { index < length self.now }
+        ensures { entry_at index self.now ≡ Some result.now }
+    {
+        self.journal.entry(index)
+    }
+
+    /// What lies before the entry of an index.
+    pub fn before(&self, index: u32) -> Past<'a>
+        requires { index ≤ length self.now }
+        ensures { result ≡ prefix index self.now }
+    {
+        Past {
+            journal: self.journal,
+            len: index,
+        }
+    }
+
+    /// The same entries once more.
+    pub fn again(&self) -> Past<'a>
+        ensures { result ≡ self.now }
+    {
+        Past {
+            journal: self.journal,
+            len: self.len,
+        }
+    }
+}
