@@ -42,7 +42,7 @@ fn is_replay(words: &[String]) -> bool
 /// journal of at most 65,536 entries, and writes the answers to the sink; any other words are no command,
 /// which is `Usage`. The journal handed back is lawful, calm and driven, and all that it owes at its last
 /// moment is answered; `Heard` says that its inputs are those of the lines that the source gave, `HasCause`
-/// why the session ended, and `Wrote` what was written.
+/// why the session ended, and `Wrote` what was written and sent on.
 pub fn run_tool<S: Source + Drop, K: Sink + Drop>(
     alloc: Global,
     words: &[String],
@@ -51,11 +51,13 @@ pub fn run_tool<S: Source + Drop, K: Sink + Drop>(
 ) -> Tooled<S, K>
     ensures usage { (result.outcome ≡ Outcome.Usage) ↔ (map string_bytes words.now ≡ codes "replay" ∷ [] → ⊥) }
     ensures none { IfNone result.journal ((result.outcome ≡ Outcome.Usage) ⊎ (result.outcome ≡ Outcome.NoMemory)) }
-    ensures nothing { IfNone result.journal (Gains (K.held sink) (K.held result.sink) []) }
+    ensures nothing_read { IfNone result.journal (Gains (S.given source) (S.given result.source) []) }
+    ensures nothing_written { IfNone result.journal (Gains (K.held sink) (K.held result.sink) []) }
     ensures served { IfSome result.journal (λ j. IsServed j.history) }
     ensures limit { IfSome result.journal (λ j. j.limit ≡ 65_536) }
     ensures text { IfSome result.journal (λ j.
-        Wrote result.outcome (K.held sink) (K.held result.sink) (K.faults sink) (K.faults result.sink) j.history) }
+        Wrote result.outcome (K.held sink) (K.held result.sink) (K.faults sink) (K.faults result.sink)
+        (K.unsent result.sink) j.history) }
     ensures cause { IfSome result.journal (λ j.
         HasCause result.outcome (S.left result.source) (S.faults source) (S.faults result.source)
         (K.faults sink) (K.faults result.sink) j result.polls 4_294_967_295) }

@@ -23,7 +23,7 @@ use Rattle.fnc_replay.specs.Heard.{Heard, HeardSoFar, HearsOn, HasInputs}
 use Rattle.fnc_replay.specs.Polls.{GaveLine, Serves, Takes}
 use Rattle.fnc_replay.specs.declared.taken.Taken.{Taken}
 use Rattle.fnc_replay.specs.Rests.{ServesLine}
-use Rattle.fnc_replay.specs.Session.{EndsWriting, IsWriteFault, cored}
+use Rattle.fnc_replay.specs.Session.{Closes, EndsWriting, IsWriteFault, after_failed_flush, cored}
 use Rattle.fnc_replay.proofs.Resting.{AreOutputs, last_input-outputs, outputs-replies, outputs-starts}
 
 -- the lines of one event more
@@ -125,23 +125,25 @@ takes-line Taken.Nothing line old new before after left reads reads' i g s = abs
 takes-line Taken.Over line old new before after left reads reads' i g s = absurd s
 takes-line Taken.Failed line old new before after left reads reads' i g s = absurd s
 
+-- nothing was gained before the first call
+pub gains-none : {A : Type 0} (told : Option (List A)) → Gains told told []
+gains-none None = tt
+gains-none (Some xs) = sym (append-nil xs)
+
 -- nothing was heard before the first poll
 pub heard-none : (told : Option (List Happening)) (v : Cored) → v.history ≡ [] → v.last ≡ 0 → HeardSoFar told told 0 v
 heard-none told v h l = record {
   events = [];
-  gained = none told;
+  gained = gains-none told;
   polled = refl;
   inputs = subst (λ (x : History). AreLines x []) (sym h) refl;
   last = ap last_come h ∙ sym l;
 }
-  where
-    none : {A : Type 0} (told : Option (List A)) → Gains told told []
-    none None = tt
-    none (Some xs) = sym (append-nil xs)
 
 -- no line was there yet
-pub heard-again : (start before after : Option (List Happening)) (made : ℕ) (old new : Cored) → HeardSoFar start before made old → new ≡ old → Gains before after (Happening.Again ∷ []) → HeardSoFar start after (made + 1) new
-heard-again start before after made old new k e g = subst (λ (v : Cored). HeardSoFar start after (made + 1) v) (sym e) (record {
+heard-nothing : (start before after : Option (List Happening)) (made : ℕ) (old new : Cored) → HeardSoFar start before made old →
+    new ≡ old → Gains before after (Happening.Again ∷ []) → HeardSoFar start after (made + 1) new
+heard-nothing start before after made old new k e g = subst (λ (v : Cored). HeardSoFar start after (made + 1) v) (sym e) (record {
   events = k.events ++ Happening.Again ∷ [];
   gained = gains-gains start before after k.events (Happening.Again ∷ []) k.gained g;
   polled = let n = length-append k.events (Happening.Again ∷ []) in let m = k.polled in omega (arith, n, m);
@@ -159,20 +161,34 @@ heard-line start before after made old new k g = record {
   last = last-served g.line old new g.does;
 }
 
--- and what it made was written, or a write failed
-pub heard-served : (r : Option Outcome) (start before after : Option (List Happening)) (made writes writes' : ℕ) (old new : Cored) → HeardSoFar start before made old →
-    GaveLine before after (λ line. ServesLine line old new) → IfSome r (λ o. IsWriteFault o writes writes') → HearsOn r start after (made + 1) new
-heard-served None start before after made writes writes' old new k g f = heard-line start before after made old new k g
-heard-served (Some Outcome.WriteFault) start before after made writes writes' old new k g f =
-    let n = heard-line start before after made old new k g in record { events = n.events; gained = n.gained; polled = inl n.polled; inputs = n.inputs }
-heard-served (Some Outcome.Finished) start before after made writes writes' old new k g f = absurd f
-heard-served (Some Outcome.ReadFault) start before after made writes writes' old new k g f = absurd f
-heard-served (Some Outcome.Budget) start before after made writes writes' old new k g f = absurd f
-heard-served (Some (Outcome.JournalFull full)) start before after made writes writes' old new k g f = absurd f
-heard-served (Some Outcome.Usage) start before after made writes writes' old new k g f = absurd f
-heard-served (Some Outcome.NoMemory) start before after made writes writes' old new k g f = absurd f
-heard-served (Some (Outcome.Unlawful index rule)) start before after made writes writes' old new k g f = absurd f
-heard-served (Some (Outcome.BadEntry line)) start before after made writes writes' old new k g f = absurd f
+-- the session goes on, or a write or a flush failed
+hears-on : (r : Option Outcome) (start after : Option (List Happening)) (made writes writes' : ℕ) (new : Cored) →
+    HeardSoFar start after made new → IfSome r (λ o. IsWriteFault o writes writes') → HearsOn r start after made new
+hears-on None start after made writes writes' new k f = k
+hears-on (Some Outcome.WriteFault) start after made writes writes' new k f =
+    record { events = k.events; gained = k.gained; polled = inl k.polled; inputs = k.inputs }
+hears-on (Some Outcome.Finished) start after made writes writes' new k f = absurd f
+hears-on (Some Outcome.ReadFault) start after made writes writes' new k f = absurd f
+hears-on (Some Outcome.Budget) start after made writes writes' new k f = absurd f
+hears-on (Some (Outcome.JournalFull full)) start after made writes writes' new k f = absurd f
+hears-on (Some Outcome.Usage) start after made writes writes' new k f = absurd f
+hears-on (Some Outcome.NoMemory) start after made writes writes' new k f = absurd f
+hears-on (Some (Outcome.Unlawful index rule)) start after made writes writes' new k f = absurd f
+hears-on (Some (Outcome.BadEntry line)) start after made writes writes' new k f = absurd f
+
+-- after a poll that found no line
+pub heard-again : (r : Option Outcome) (start before after : Option (List Happening)) (made writes writes' : ℕ) (old new : Cored) →
+    HeardSoFar start before made old → new ≡ old → Gains before after (Happening.Again ∷ []) →
+    IfSome r (λ o. IsWriteFault o writes writes') → HearsOn r start after (made + 1) new
+heard-again r start before after made writes writes' old new k e g f =
+    hears-on r start after (made + 1) writes writes' new (heard-nothing start before after made old new k e g) f
+
+-- after a poll that gave a line
+pub heard-served : (r : Option Outcome) (start before after : Option (List Happening)) (made writes writes' : ℕ) (old new : Cored) →
+    HeardSoFar start before made old → GaveLine before after (λ line. ServesLine line old new) →
+    IfSome r (λ o. IsWriteFault o writes writes') → HearsOn r start after (made + 1) new
+heard-served r start before after made writes writes' old new k g f =
+    hears-on r start after (made + 1) writes writes' new (heard-line start before after made old new k g) f
 
 -- a line found no room
 pub heard-full : (start before after : Option (List Happening)) (made : ℕ) (full : Full) (old new : Cored) → HeardSoFar start before made old → GaveLine before after (λ line. LacksRoom line old new full) →
@@ -224,6 +240,28 @@ heard-fault start before after made old new k e g = subst (λ (v : Cored). Heard
 -- the allowed polls were made
 pub heard-budget : (start after : Option (List Happening)) (made : ℕ) (v : Cored) → HeardSoFar start after made v → Heard Outcome.Budget start after made v
 heard-budget start after made v k = record { events = k.events; gained = k.gained; polled = k.polled; inputs = k.inputs }
+
+-- where the last flush fails, as much was heard
+heard-failed : (o : Outcome) (before after : Option (List Happening)) (polls : ℕ) (v : Cored) → Heard o before after polls v →
+    Heard (after_failed_flush o) before after polls v
+heard-failed Outcome.Finished before after polls v k =
+    record { events = k.events; gained = k.gained; polled = inr k.polled; inputs = k.inputs }
+heard-failed Outcome.Budget before after polls v k =
+    record { events = k.events; gained = k.gained; polled = inl k.polled; inputs = k.inputs }
+heard-failed Outcome.WriteFault before after polls v k = k
+heard-failed Outcome.ReadFault before after polls v k = k
+heard-failed (Outcome.JournalFull full) before after polls v k = k
+heard-failed Outcome.Usage before after polls v k = k
+heard-failed Outcome.NoMemory before after polls v k = k
+heard-failed (Outcome.Unlawful index rule) before after polls v k = k
+heard-failed (Outcome.BadEntry line) before after polls v k = k
+
+pub heard-closed : (o closed : Outcome) (writes writes' : ℕ) (before after : Option (List Happening)) (polls : ℕ) (v : Cored) →
+    Closes o closed writes writes' → Heard o before after polls v → Heard closed before after polls v
+heard-closed o closed writes writes' before after polls v c k = elim c [
+  inl same ↦ subst (λ x. Heard x before after polls v) (sym same) k
+  | inr failed ↦ subst (λ x. Heard x before after polls v) (sym failed.0) (heard-failed o before after polls v k)
+]
 
 -- what was heard is heard of the journal that is handed back
 pub heard-cored : (o : Outcome) (before after : Option (List Happening)) (polls : ℕ) (v : Cored) (j : Journaled) → j.history ≡ v.history → j.limit ≡ v.limit → Heard o before after polls v → Heard o before after polls (cored j)

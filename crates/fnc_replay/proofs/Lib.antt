@@ -1,3 +1,4 @@
 pub mod Resting
 pub mod Growing
 pub mod Hearing
+pub mod Writing

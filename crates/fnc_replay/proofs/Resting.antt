@@ -19,9 +19,10 @@ use Rattle.fnc_core.specs.declared.change.Started.{Started}
 use Rattle.fnc_desk.specs.Entered.{TakesLine, LacksRoom}
 use Rattle.fnc_desk.proofs.Counting.{given-is_input}
 use Rattle.fnc_replay.specs.Rests.{Rests, AreStarts, StartsSome, StartsAll, ServesLine}
-use Rattle.fnc_replay.specs.Session.{Wrote, EndsBy, HasCause, IsServed, Turns, cored}
+use Rattle.fnc_replay.specs.Session.{Closes, EndsBy, HasCause, IsServed, Turns, after_failed_flush, cored}
 use Rattle.fnc_outside.specs.Events.{Happening}
-use Rattle.fnc_outside.proofs.Telling.{then-rose}
+use Rattle.fnc_outside.specs.Faults.{Rose}
+use Rattle.fnc_outside.proofs.Telling.{rose-then, then-rose}
 
 start-no_input : (event : Event) → is_start event ≡ true → is_input event ≡ false
 start-no_input (Event.Start start) q = refl
@@ -225,17 +226,10 @@ turns-served (Some outcome) line old new s k = λ r. driven-rests new (rests-ser
 pub served-driven : (v : Cored) → Sound v → Driven v.history → IsServed v.history
 served-driven v k d = record { lawful = k.lawful; calm = k.calm; settled_then = k.settled_then; driven = d }
 
--- what a turn says holds of the session so far
-pub wrote-later : (o : Outcome) (before after : Option (List ℕ)) (f g k : ℕ) (h : History) → f ≤ g → Wrote o before after g k h → Wrote o before after f k h
-wrote-later Outcome.Finished before after f g k h l w = w
-wrote-later Outcome.WriteFault before after f g k h l w = w
-wrote-later Outcome.ReadFault before after f g k h l w = w
-wrote-later Outcome.Budget before after f g k h l w = w
-wrote-later (Outcome.JournalFull full) before after f g k h l w = elim w [ inl w ↦ inl w | inr w ↦ inr (then-rose f g k l w.0, w.1) ]
-wrote-later Outcome.Usage before after f g k h l w = w
-wrote-later Outcome.NoMemory before after f g k h l w = w
-wrote-later (Outcome.Unlawful index rule) before after f g k h l w = w
-wrote-later (Outcome.BadEntry line) before after f g k h l w = w
+-- a turn that found no line leaves the session as it was
+pub turns-still : (r : Option Outcome) (old new : Cored) → new ≡ old → Turns r old new
+turns-still None old new e = λ rests. subst Rests (sym e) rests
+turns-still (Some outcome) old new e = λ rests. subst (λ (v : Cored). Driven v.history) (sym e) (driven-rests old rests)
 
 full-cored : (v : Cored) (j : Journaled) (full : Full) → j.history ≡ v.history → j.limit ≡ v.limit → IsFull v full.need full → IsFull (cored j) full.need full
 full-cored v j full e l f =
@@ -259,3 +253,40 @@ cause-of Outcome.Usage left reads reads0 reads' writes writes0 writes' v j made 
 cause-of Outcome.NoMemory left reads reads0 reads' writes writes0 writes' v j made allowed r w h l e = e
 cause-of (Outcome.Unlawful index rule) left reads reads0 reads' writes writes0 writes' v j made allowed r w h l e = e
 cause-of (Outcome.BadEntry line) left reads reads0 reads' writes writes0 writes' v j made allowed r w h l e = e
+
+-- and ends it still where the last flush worked, or failed after another cause
+cause-later : (o : Outcome) (left : Option (List Happening)) (reads reads' writes writes0 writes' : ℕ) (j : Journaled) (made allowed : ℕ) →
+    writes0 ≤ writes' → HasCause o left reads reads' writes writes0 j made allowed → HasCause o left reads reads' writes writes' j made allowed
+cause-later Outcome.WriteFault left reads reads' writes writes0 writes' j made allowed w e = rose-then writes writes0 writes' e w
+cause-later Outcome.Finished left reads reads' writes writes0 writes' j made allowed w e = e
+cause-later Outcome.ReadFault left reads reads' writes writes0 writes' j made allowed w e = e
+cause-later Outcome.Budget left reads reads' writes writes0 writes' j made allowed w e = e
+cause-later (Outcome.JournalFull full) left reads reads' writes writes0 writes' j made allowed w e = e
+cause-later Outcome.Usage left reads reads' writes writes0 writes' j made allowed w e = e
+cause-later Outcome.NoMemory left reads reads' writes writes0 writes' j made allowed w e = e
+cause-later (Outcome.Unlawful index rule) left reads reads' writes writes0 writes' j made allowed w e = e
+cause-later (Outcome.BadEntry line) left reads reads' writes writes0 writes' j made allowed w e = e
+
+cause-failed : (o : Outcome) (left : Option (List Happening)) (reads reads' writes writes0 writes' : ℕ) (j : Journaled) (made allowed : ℕ) →
+    writes ≤ writes0 → writes0 ≤ writes' → Rose writes0 writes' → HasCause o left reads reads' writes writes0 j made allowed →
+    HasCause (after_failed_flush o) left reads reads' writes writes' j made allowed
+cause-failed Outcome.Finished left reads reads' writes writes0 writes' j made allowed w w' r e = then-rose writes writes0 writes' w r
+cause-failed Outcome.Budget left reads reads' writes writes0 writes' j made allowed w w' r e = then-rose writes writes0 writes' w r
+cause-failed Outcome.WriteFault left reads reads' writes writes0 writes' j made allowed w w' r e = rose-then writes writes0 writes' e w'
+cause-failed Outcome.ReadFault left reads reads' writes writes0 writes' j made allowed w w' r e = e
+cause-failed (Outcome.JournalFull full) left reads reads' writes writes0 writes' j made allowed w w' r e = e
+cause-failed Outcome.Usage left reads reads' writes writes0 writes' j made allowed w w' r e = e
+cause-failed Outcome.NoMemory left reads reads' writes writes0 writes' j made allowed w w' r e = e
+cause-failed (Outcome.Unlawful index rule) left reads reads' writes writes0 writes' j made allowed w w' r e = e
+cause-failed (Outcome.BadEntry line) left reads reads' writes writes0 writes' j made allowed w w' r e = e
+
+-- why a session ended, after its last flush
+pub cause-closed : (o closed : Outcome) (left : Option (List Happening)) (reads reads' writes writes0 writes' : ℕ) (j : Journaled) (made allowed : ℕ) →
+    writes ≤ writes0 → writes0 ≤ writes' → Closes o closed writes0 writes' → HasCause o left reads reads' writes writes0 j made allowed →
+    HasCause closed left reads reads' writes writes' j made allowed
+cause-closed o closed left reads reads' writes writes0 writes' j made allowed w w' k e = elim k [
+  inl same ↦ subst (λ x. HasCause x left reads reads' writes writes' j made allowed) (sym same)
+    (cause-later o left reads reads' writes writes0 writes' j made allowed w' e)
+  | inr failed ↦ subst (λ x. HasCause x left reads reads' writes writes' j made allowed) (sym failed.0)
+    (cause-failed o left reads reads' writes writes0 writes' j made allowed w w' failed.1 e)
+]

@@ -9,24 +9,47 @@ use Rattle.fnc_journal.specs.Driven.{Driven}
 use Rattle.fnc_outside.specs.Events.{Happening}
 use Rattle.fnc_outside.specs.Faults.{Rose}
 use Rattle.fnc_outside.specs.Told.{Gains}
-use Rattle.fnc_outside.specs.Writes.{AppendsPart}
+use Rattle.fnc_outside.specs.Writes.{HoldsPart}
 use Rattle.fnc_core.specs.Cored.{Cored, IsFull}
 use Rattle.fnc_replay.specs.Rests.{Rests}
 
--- What the sink gained, where it tells what it holds. A session that finished wrote the text and the end line;
--- one whose write failed a part from the front of these; any other the text alone, or a part from the front of
--- it where a write failed.
-abbrev pub Wrote : Outcome → Option (List ℕ) → Option (List ℕ) → ℕ → ℕ → History → Type 0
-Wrote Outcome.Finished before after faults faults' h = Gains before after (answers_text h ++ end_line h)
-Wrote Outcome.WriteFault before after faults faults' h = AppendsPart before after (answers_text h ++ end_line h)
-Wrote Outcome.ReadFault before after faults faults' h = Gains before after (answers_text h)
-Wrote Outcome.Budget before after faults faults' h = Gains before after (answers_text h)
-Wrote (Outcome.JournalFull full) before after faults faults' h =
-    Gains before after (answers_text h) ⊎ (Rose faults faults' × AppendsPart before after (answers_text h))
-Wrote Outcome.Usage before after faults faults' h = Gains before after []
-Wrote Outcome.NoMemory before after faults faults' h = Gains before after []
-Wrote (Outcome.Unlawful index rule) before after faults faults' h = ⊥
-Wrote (Outcome.BadEntry line) before after faults faults' h = ⊥
+-- all of the text is held and was sent on
+abbrev pub SentOn : Option (List ℕ) → Option (List ℕ) → ℕ → List ℕ → Type 0
+SentOn before after unsent text = Gains before after text × (unsent ≡ 0)
+
+-- What the sink gained, where it tells what it holds, and how much of it is still to be sent on. A session that
+-- finished wrote the text and the end line; one whose write or flush failed left a part from the front of these; any
+-- other the text alone, or a part from the front of it where a write or a flush failed. What did not fail was sent on.
+abbrev pub Wrote : Outcome → Option (List ℕ) → Option (List ℕ) → ℕ → ℕ → ℕ → History → Type 0
+Wrote Outcome.Finished before after writes writes' unsent h = SentOn before after unsent (answers_text h ++ end_line h)
+Wrote Outcome.WriteFault before after writes writes' unsent h = HoldsPart before after (answers_text h ++ end_line h)
+Wrote Outcome.Budget before after writes writes' unsent h = SentOn before after unsent (answers_text h)
+Wrote Outcome.ReadFault before after writes writes' unsent h =
+    SentOn before after unsent (answers_text h) ⊎ (Rose writes writes' × HoldsPart before after (answers_text h))
+Wrote (Outcome.JournalFull full) before after writes writes' unsent h =
+    SentOn before after unsent (answers_text h) ⊎ (Rose writes writes' × HoldsPart before after (answers_text h))
+Wrote _ before after writes writes' unsent h = ⊥
+
+-- the same before the last flush, where what was written may still wait
+abbrev pub Printed : Outcome → Option (List ℕ) → Option (List ℕ) → ℕ → ℕ → History → Type 0
+Printed Outcome.Finished before after writes writes' h = Gains before after (answers_text h ++ end_line h)
+Printed Outcome.WriteFault before after writes writes' h = HoldsPart before after (answers_text h ++ end_line h)
+Printed Outcome.Budget before after writes writes' h = Gains before after (answers_text h)
+Printed Outcome.ReadFault before after writes writes' h = Gains before after (answers_text h)
+Printed (Outcome.JournalFull full) before after writes writes' h =
+    Gains before after (answers_text h) ⊎ (Rose writes writes' × HoldsPart before after (answers_text h))
+Printed _ before after writes writes' h = ⊥
+
+-- The outcome where the last flush fails. A session that nothing had ended before ends by that; any other keeps its
+-- first cause.
+abbrev pub after_failed_flush : Outcome → Outcome
+after_failed_flush Outcome.Finished = Outcome.WriteFault
+after_failed_flush Outcome.Budget = Outcome.WriteFault
+after_failed_flush outcome = outcome
+
+-- what the last flush makes of an outcome
+abbrev pub Closes : Outcome → Outcome → ℕ → ℕ → Type 0
+Closes outcome closed writes writes' = (closed ≡ outcome) ⊎ ((closed ≡ after_failed_flush outcome) × Rose writes writes')
 
 -- nothing is left, where the source tells what is
 abbrev pub IsOver : Option (List Happening) → Type 0
@@ -54,10 +77,10 @@ EndsWriting Outcome.Finished writes writes' = Unit {0}
 EndsWriting Outcome.WriteFault writes writes' = Rose writes writes'
 EndsWriting _ writes writes' = ⊥
 
--- what the sink gained so far, or at the end
+-- what the sink gained so far, or at the end before the last flush
 abbrev pub Puts : Option Outcome → Option (List ℕ) → Option (List ℕ) → ℕ → ℕ → History → Type 0
 Puts None before after writes writes' h = Gains before after (answers_text h)
-Puts (Some outcome) before after writes writes' h = Wrote outcome before after writes writes' h
+Puts (Some outcome) before after writes writes' h = Printed outcome before after writes writes' h
 
 -- a write that fails
 abbrev pub IsWriteFault : Outcome → ℕ → ℕ → Type 0

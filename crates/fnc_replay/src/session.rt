@@ -5,7 +5,7 @@ ghost use Rattle.fnc_outside.specs.Told.{Gains};
 ghost use Rattle.fnc_replay.specs.Session.{Wrote, HasCause, IsServed, cored};
 ghost use Rattle.fnc_replay.specs.Heard.{Heard};
 
-use crate::turn::turn;
+use crate::turn::{close, turn};
 use fnc_desk::Desk;
 use fnc_journal::{Journal, Outcome};
 use fnc_outside::{LineBuf, Sink, Source};
@@ -28,7 +28,7 @@ pub struct Replayed<S: Drop, K: Drop> {
 /// Replays the lines of a source: each is entered, and all starts are made; then the lines of the new
 /// entries are written. At the end of the source the end line is written. The session ends there, at a
 /// fault of the source or of the sink, at a line without room in the journal, or when `polls` polls were
-/// made.
+/// made. What was written is sent on whenever no line is there yet, and before the session ends.
 pub fn replay<S: Source + Drop, K: Sink + Drop>(
     alloc: Global,
     mut source: S,
@@ -40,11 +40,13 @@ pub fn replay<S: Source + Drop, K: Sink + Drop>(
     requires most { limit ≤ 1_048_576 }
     requires few { polls < 2 ^ 32 }
     ensures none { IfNone result.journal (result.outcome ≡ Outcome.NoMemory) }
-    ensures nothing { IfNone result.journal (Gains (K.held sink) (K.held result.sink) []) }
+    ensures nothing_read { IfNone result.journal (Gains (S.given source) (S.given result.source) []) }
+    ensures nothing_written { IfNone result.journal (Gains (K.held sink) (K.held result.sink) []) }
     ensures served { IfSome result.journal (λ j. IsServed j.history) }
     ensures limit { IfSome result.journal (λ j. j.limit ≡ limit) }
     ensures text { IfSome result.journal (λ j.
-        Wrote result.outcome (K.held sink) (K.held result.sink) (K.faults sink) (K.faults result.sink) j.history) }
+        Wrote result.outcome (K.held sink) (K.held result.sink) (K.faults sink) (K.faults result.sink)
+        (K.unsent result.sink) j.history) }
     ensures cause { IfSome result.journal (λ j.
         HasCause result.outcome (S.left result.source) (S.faults source) (S.faults result.source)
         (K.faults sink) (K.faults result.sink) j result.polls polls) }
@@ -69,7 +71,7 @@ pub fn replay<S: Source + Drop, K: Sink + Drop>(
             None => {}
             Some(outcome) => {
                 return Replayed {
-                    outcome,
+                    outcome: close(&mut sink, outcome),
                     journal: Some(desk.into_journal()),
                     polls: made + 1,
                     source,
@@ -79,7 +81,7 @@ pub fn replay<S: Source + Drop, K: Sink + Drop>(
         }
     }
     Replayed {
-        outcome: Outcome::Budget,
+        outcome: close(&mut sink, Outcome::Budget),
         journal: Some(desk.into_journal()),
         polls,
         source,

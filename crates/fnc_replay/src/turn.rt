@@ -1,12 +1,15 @@
 // One turn of a session: a poll, and the lines of what it made.
 
-ghost use Rattle.std.specs.Prelude.{◌≡◌, ◌≤◌, ◌+◌, [], ℕ, List, Option, length, IfSome};
+ghost use Rattle.std.specs.Prelude.{◌≡◌, ◌≤◌, ◌+◌, [], ℕ, List, Option, length, IfSome, IfNone};
+ghost use Rattle.fnc_journal.specs.History.{History};
 ghost use Rattle.fnc_journal.specs.Lawful.{Lawful};
 ghost use Rattle.fnc_journal.specs.Line.{answers_text};
 ghost use Rattle.fnc_journal.specs.Prefix.{prefix};
 ghost use Rattle.fnc_outside.specs.Events.{Happening};
 ghost use Rattle.fnc_outside.specs.Told.{Gains};
-ghost use Rattle.fnc_replay.specs.Session.{Wrote, EndsBy, EndsWriting, IsWriteFault, Puts, Turns};
+ghost use Rattle.fnc_replay.specs.Session.{
+  Closes, Printed, Wrote, EndsBy, EndsWriting, IsWriteFault, Puts, Turns, after_failed_flush,
+};
 ghost use Rattle.fnc_replay.specs.Heard.{HeardSoFar, HearsOn};
 
 use crate::taken::{Taken, take};
@@ -14,11 +17,25 @@ use fnc_desk::{Desk, print_end, print_from};
 use fnc_journal::{Full, Journal, Outcome};
 use fnc_outside::{LineBuf, Sink, Source};
 
+/// Sends on all that was written, before a read that may wait. None where the session goes on.
+fn send_on<K: Sink>(sink: &mut K) -> Option<Outcome>
+    ensures sent { IfNone result (K.unsent sink.new ≡ 0) }
+    ensures text { (start : Option (List ℕ)) (h : History) → Gains start (K.held sink.old) (answers_text h)
+        → Puts result start (K.held sink.new) (K.faults sink.old) (K.faults sink.new) h }
+    ensures cause { IfSome result (λ o. IsWriteFault o (K.faults sink.old) (K.faults sink.new)) }
+    ensures writes { K.faults sink.old ≤ K.faults sink.new }
+{
+    match sink.flush() {
+        Ok(()) => None,
+        Err(_) => Some(Outcome::WriteFault),
+    }
+}
+
 /// Writes the end line.
 fn finish<K: Sink>(journal: &Journal, sink: &mut K) -> Outcome
     requires { Lawful journal.now.history }
     ensures text { (start : Option (List ℕ)) → Gains start (K.held sink.old) (answers_text journal.now.history)
-        → Wrote result start (K.held sink.new) (K.faults sink.old) (K.faults sink.new) journal.now.history }
+        → Printed result start (K.held sink.new) (K.faults sink.old) (K.faults sink.new) journal.now.history }
     ensures cause { EndsWriting result (K.faults sink.old) (K.faults sink.new) }
     ensures writes { K.faults sink.old ≤ K.faults sink.new }
 {
@@ -48,7 +65,7 @@ fn write_full<K: Sink>(journal: &Journal, from: u32, sink: &mut K, full: Full) -
     requires lawful { Lawful journal.now.history }
     requires within { from ≤ length journal.now.history }
     ensures text { (start : Option (List ℕ)) → Gains start (K.held sink.old) (answers_text (prefix from journal.now.history))
-        → Wrote result start (K.held sink.new) (K.faults sink.old) (K.faults sink.new) journal.now.history }
+        → Printed result start (K.held sink.new) (K.faults sink.old) (K.faults sink.new) journal.now.history }
     ensures outcome { result ≡ Outcome.JournalFull full }
     ensures writes { K.faults sink.old ≤ K.faults sink.new }
 {
@@ -57,8 +74,33 @@ fn write_full<K: Sink>(journal: &Journal, from: u32, sink: &mut K, full: Full) -
     Outcome::JournalFull(full)
 }
 
-/// One turn: polls the source once, serves what it gave, and writes the lines of what that made. None
-/// where the session goes on.
+/// The outcome where the last flush fails: a failed write, unless the session had ended before by that or
+/// another cause of its own.
+fn after_failed_flush(outcome: Outcome) -> Outcome
+    ensures { result ≡ after_failed_flush outcome }
+{
+    match outcome {
+        Outcome::Finished | Outcome::Budget => Outcome::WriteFault,
+        _ => outcome,
+    }
+}
+
+/// Sends on all that was written, before the outcome.
+pub(crate) fn close<K: Sink>(sink: &mut K, outcome: Outcome) -> Outcome
+    ensures text { (start : Option (List ℕ)) (writes : ℕ) (h : History) → writes ≤ K.faults sink.old
+        → Printed outcome start (K.held sink.old) writes (K.faults sink.old) h
+        → Wrote result start (K.held sink.new) writes (K.faults sink.new) (K.unsent sink.new) h }
+    ensures closes { Closes outcome result (K.faults sink.old) (K.faults sink.new) }
+    ensures writes { K.faults sink.old ≤ K.faults sink.new }
+{
+    match sink.flush() {
+        Ok(()) => outcome,
+        Err(_) => after_failed_flush(outcome),
+    }
+}
+
+/// One turn: polls the source once, serves what it gave, and writes the lines of what that made; where no
+/// line is there yet, it sends on what was written. None where the session goes on.
 pub(crate) fn turn<S: Source, K: Sink>(
     source: &mut S,
     sink: &mut K,
@@ -80,7 +122,7 @@ pub(crate) fn turn<S: Source, K: Sink>(
 {
     let written = desk.journal().len();
     match take(source, desk, line) {
-        Taken::Nothing => None,
+        Taken::Nothing => send_on(sink),
         Taken::Served => write_on(desk.journal(), written, sink),
         Taken::Full(full) => Some(write_full(desk.journal(), written, sink, full)),
         Taken::Over => Some(finish(desk.journal(), sink)),
