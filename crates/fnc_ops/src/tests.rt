@@ -6,9 +6,9 @@ use crate::begin::fresh_operation;
 use crate::operation::OperationRecord;
 use crate::ops::{Operation, Ops};
 use fnc_journal::{
-    Actions, Allowed, Answer, Base, Candidate, Candidates, Definition, Entry, Event, HostCheck,
-    Journal, Kind, Levels, Names, NoMemory, Pairs, Phase, Places, Plan, PlanLevel, Reg, Registered,
-    Registration, Req, Scope, Slot, Text,
+    Actions, Allowed, Answer, Base, Boxed, Candidate, Candidates, Definition, Entry, Event,
+    HostCheck, Journal, Kind, Levels, Names, NoMemory, Pairs, Phase, Places, Plan, PlanLevel, Reg,
+    Registered, Registration, Req, Scope, Slot, Text,
 };
 use std::alloc::Global;
 use std::test::Fail;
@@ -61,15 +61,16 @@ fn device(alloc: Global, reg: u32, on: bool) -> Result<Entry, NoMemory> {
         status: allowed(alloc, "status")?,
         own: Pairs::new(alloc),
     };
+    let registration = Registration {
+        name: Text::new(alloc, "d")?,
+        agent: Text::new(alloc, "fence_x")?,
+        definition,
+    };
     Ok(Entry {
         moment: 0,
         event: Event::Device(Registered {
             reg: Reg(reg),
-            registration: Registration {
-                name: Text::new(alloc, "d")?,
-                agent: Text::new(alloc, "fence_x")?,
-                definition,
-            },
+            registration: Boxed::new(alloc, registration)?,
         }),
     })
 }
