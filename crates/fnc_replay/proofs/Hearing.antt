@@ -259,7 +259,7 @@ heard-failed (Outcome.BadEntry line) before after polls v k = k
 pub heard-closed : (o closed : Outcome) (writes writes' : ℕ) (before after : Option (List Happening)) (polls : ℕ) (v : Cored) →
     Closes o closed writes writes' → Heard o before after polls v → Heard closed before after polls v
 heard-closed o closed writes writes' before after polls v c k = elim c [
-  inl same ↦ subst (λ x. Heard x before after polls v) (sym same) k
+  | inl same ↦ subst (λ x. Heard x before after polls v) (sym same) k
   | inr failed ↦ subst (λ x. Heard x before after polls v) (sym failed.0) (heard-failed o before after polls v k)
 ]
 

@@ -285,8 +285,8 @@ pub cause-closed : (o closed : Outcome) (left : Option (List Happening)) (reads 
     writes ≤ writes0 → writes0 ≤ writes' → Closes o closed writes0 writes' → HasCause o left reads reads' writes writes0 j made allowed →
     HasCause closed left reads reads' writes writes' j made allowed
 cause-closed o closed left reads reads' writes writes0 writes' j made allowed w w' k e = elim k [
-  inl same ↦ subst (λ x. HasCause x left reads reads' writes writes' j made allowed) (sym same)
-    (cause-later o left reads reads' writes writes0 writes' j made allowed w' e)
+  | inl same ↦ subst (λ x. HasCause x left reads reads' writes writes' j made allowed) (sym same)
+      (cause-later o left reads reads' writes writes0 writes' j made allowed w' e)
   | inr failed ↦ subst (λ x. HasCause x left reads reads' writes writes' j made allowed) (sym failed.0)
-    (cause-failed o left reads reads' writes writes0 writes' j made allowed w w' failed.1 e)
+      (cause-failed o left reads reads' writes writes0 writes' j made allowed w w' failed.1 e)
 ]

@@ -43,7 +43,7 @@ wrote-sent Outcome.WriteFault before between after f g k unsent h l same none p 
 wrote-sent Outcome.ReadFault before between after f g k unsent h l same none p =
     inl (gains-keeps before between after (answers_text h) p same, none)
 wrote-sent (Outcome.JournalFull full) before between after f g k unsent h l same none p = elim p [
-  inl p ↦ inl (gains-keeps before between after (answers_text h) p same, none)
+  | inl p ↦ inl (gains-keeps before between after (answers_text h) p same, none)
   | inr p ↦ inr (rose-then f g k p.0 l, holds-keeps before between after (answers_text h) p.1 same)
 ]
 wrote-sent Outcome.Usage before between after f g k unsent h l same none p = absurd p
@@ -64,7 +64,7 @@ wrote-failed Outcome.WriteFault before between after f g k unsent h l part rose 
 wrote-failed Outcome.ReadFault before between after f g k unsent h l part rose p =
     inr (then-rose f g k l rose, gains-holds before between after (answers_text h) p part)
 wrote-failed (Outcome.JournalFull full) before between after f g k unsent h l part rose p = elim p [
-  inl p ↦ inr (then-rose f g k l rose, gains-holds before between after (answers_text h) p part)
+  | inl p ↦ inr (then-rose f g k l rose, gains-holds before between after (answers_text h) p part)
   | inr p ↦ inr (then-rose f g k l rose, holds-holds before between after (answers_text h) p.1 part)
 ]
 wrote-failed Outcome.Usage before between after f g k unsent h l part rose p = absurd p

@@ -5,8 +5,6 @@
 mod session;
 mod starts;
 mod taken;
-#[cfg(test)]
-mod tests;
 mod turn;
 
 pub use session::{Replayed, replay};

@@ -8,7 +8,15 @@ ghost use Rattle.fnc_journal.specs.Prefix.{prefix};
 ghost use Rattle.fnc_outside.specs.Events.{Happening};
 ghost use Rattle.fnc_outside.specs.Told.{Gains};
 ghost use Rattle.fnc_replay.specs.Session.{
-  Closes, Printed, Wrote, EndsBy, EndsWriting, IsWriteFault, Puts, Turns, after_failed_flush,
+  Closes,
+  Printed,
+  Wrote,
+  EndsBy,
+  EndsWriting,
+  IsWriteFault,
+  Puts,
+  Turns,
+  after_failed_flush,
 };
 ghost use Rattle.fnc_replay.specs.Heard.{HeardSoFar, HearsOn};
 

@@ -20,7 +20,7 @@ loop-made-init g c =
       empty = c.in-Ok-Ok.ensures'.bytes;
       limit = c.in-Ok-Ok.ensures.limit;
       text = subst (λ (h : History). Gains (g.K.Sink.held c.args.sink) (g.K.Sink.held c.args.sink) (answers_text h))
-        (sym none) (gains-none (g.K.Sink.held c.args.sink));
+          (sym none) (gains-none (g.K.Sink.held c.args.sink));
       heard = heard-none _ _ none c.in-Ok-Ok.ensures.last;
       reads = omega arith;
       writes = omega arith;
@@ -48,14 +48,14 @@ returns-in-Some-clause-text g c =
     let before = c.loop-made.invariant in
     let printed = printed-later c.in-Some.outcome _ _ _ _ _ c.turn.new.desk.history before.writes (c.in-Some.ensures.text _ before.text) in
     subst (λ (h : History). Wrote c.close.result (g.K.Sink.held c.args.sink) (g.K.Sink.held c.close.new.sink)
-      (g.K.Sink.faults c.args.sink) (g.K.Sink.faults c.close.new.sink) (g.K.Sink.unsent c.close.new.sink) h)
+    (g.K.Sink.faults c.args.sink) (g.K.Sink.faults c.close.new.sink) (g.K.Sink.unsent c.close.new.sink) h)
     (sym c.into_journal.ensures.history)
     (c.close.ensures.text _ _ c.turn.new.desk.history (omega (arith, before.writes, c.in-Some.ensures.writes)) printed)
 
 pub returns-clause-text : goal.returns-clause-text
 returns-clause-text g c =
     subst (λ (h : History). Wrote c.close-2.result (g.K.Sink.held c.args.sink) (g.K.Sink.held c.close-2.new.sink)
-      (g.K.Sink.faults c.args.sink) (g.K.Sink.faults c.close-2.new.sink) (g.K.Sink.unsent c.close-2.new.sink) h)
+    (g.K.Sink.faults c.args.sink) (g.K.Sink.faults c.close-2.new.sink) (g.K.Sink.unsent c.close-2.new.sink) h)
     (sym c.into_journal-2.ensures.history)
     (c.close-2.ensures.text _ _ _ c.loop-made.invariant.writes c.loop-made.invariant.text)
 

@@ -12,5 +12,5 @@ returns-in-Ok-clause-text g c = λ start writes h later printed.
 pub returns-in-Err-clause-text : goal.returns-in-Err-clause-text
 returns-in-Err-clause-text g c = λ start writes h later printed.
     subst (λ (o : Outcome). Wrote o start (g.K.Sink.held c.flush.new.self) writes (g.K.Sink.faults c.flush.new.self)
-      (g.K.Sink.unsent c.flush.new.self) h) (sym c.after_failed_flush.ensures)
+    (g.K.Sink.unsent c.flush.new.self) h) (sym c.after_failed_flush.ensures)
     (wrote-failed c.args.outcome start _ _ writes _ _ _ h later c.in-Err.ensures.err c.in-Err.ensures.cause printed)

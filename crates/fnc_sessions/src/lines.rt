@@ -1,8 +1,8 @@
 // Sessions on a text in memory, with sources and sinks that fail.
 
-use crate::replay;
 use fnc_journal::Outcome;
 use fnc_outside::{MemorySink, MemorySource};
+use fnc_replay::replay;
 use std::alloc::Global;
 use std::process::Abort;
 use std::test::Fail;

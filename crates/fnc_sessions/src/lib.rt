@@ -1,0 +1,7 @@
+// Sessions of lines: what each writes and how it ends, on sources and sinks that wait and fail. Tests alone stand here.
+#![tactic(auto)]
+
+#[cfg(test)]
+mod flushes;
+#[cfg(test)]
+mod lines;
