@@ -255,9 +255,11 @@ cause-of (Outcome.Unlawful index rule) left reads reads0 reads' writes writes0 w
 cause-of (Outcome.BadEntry line) left reads reads0 reads' writes writes0 writes' v j made allowed r w h l e = e
 
 -- and ends it still where the last flush worked, or failed after another cause
-cause-later : (o : Outcome) (left : Option (List Happening)) (reads reads' writes writes0 writes' : ℕ) (j : Journaled) (made allowed : ℕ) →
-    writes0 ≤ writes' → HasCause o left reads reads' writes writes0 j made allowed → HasCause o left reads reads' writes writes' j made allowed
-cause-later Outcome.WriteFault left reads reads' writes writes0 writes' j made allowed w e = rose-then writes writes0 writes' e w
+cause-later : (o : Outcome) (left : Option (List Happening)) (reads reads' writes writes0 writes' : ℕ) (j : Journaled)
+    (made allowed : ℕ) → writes0 ≤ writes' → HasCause o left reads reads' writes writes0 j made allowed →
+    HasCause o left reads reads' writes writes' j made allowed
+cause-later Outcome.WriteFault left reads reads' writes writes0 writes' j made allowed w e =
+    rose-then writes writes0 writes' e w
 cause-later Outcome.Finished left reads reads' writes writes0 writes' j made allowed w e = e
 cause-later Outcome.ReadFault left reads reads' writes writes0 writes' j made allowed w e = e
 cause-later Outcome.Budget left reads reads' writes writes0 writes' j made allowed w e = e
@@ -267,12 +269,16 @@ cause-later Outcome.NoMemory left reads reads' writes writes0 writes' j made all
 cause-later (Outcome.Unlawful index rule) left reads reads' writes writes0 writes' j made allowed w e = e
 cause-later (Outcome.BadEntry line) left reads reads' writes writes0 writes' j made allowed w e = e
 
-cause-failed : (o : Outcome) (left : Option (List Happening)) (reads reads' writes writes0 writes' : ℕ) (j : Journaled) (made allowed : ℕ) →
-    writes ≤ writes0 → writes0 ≤ writes' → Rose writes0 writes' → HasCause o left reads reads' writes writes0 j made allowed →
+cause-failed : (o : Outcome) (left : Option (List Happening)) (reads reads' writes writes0 writes' : ℕ) (j : Journaled)
+    (made allowed : ℕ) → writes ≤ writes0 → writes0 ≤ writes' → Rose writes0 writes' →
+    HasCause o left reads reads' writes writes0 j made allowed →
     HasCause (after_failed_flush o) left reads reads' writes writes' j made allowed
-cause-failed Outcome.Finished left reads reads' writes writes0 writes' j made allowed w w' r e = then-rose writes writes0 writes' w r
-cause-failed Outcome.Budget left reads reads' writes writes0 writes' j made allowed w w' r e = then-rose writes writes0 writes' w r
-cause-failed Outcome.WriteFault left reads reads' writes writes0 writes' j made allowed w w' r e = rose-then writes writes0 writes' e w'
+cause-failed Outcome.Finished left reads reads' writes writes0 writes' j made allowed w w' r e =
+    then-rose writes writes0 writes' w r
+cause-failed Outcome.Budget left reads reads' writes writes0 writes' j made allowed w w' r e =
+    then-rose writes writes0 writes' w r
+cause-failed Outcome.WriteFault left reads reads' writes writes0 writes' j made allowed w w' r e =
+    rose-then writes writes0 writes' e w'
 cause-failed Outcome.ReadFault left reads reads' writes writes0 writes' j made allowed w w' r e = e
 cause-failed (Outcome.JournalFull full) left reads reads' writes writes0 writes' j made allowed w w' r e = e
 cause-failed Outcome.Usage left reads reads' writes writes0 writes' j made allowed w w' r e = e
@@ -281,8 +287,9 @@ cause-failed (Outcome.Unlawful index rule) left reads reads' writes writes0 writ
 cause-failed (Outcome.BadEntry line) left reads reads' writes writes0 writes' j made allowed w w' r e = e
 
 -- why a session ended, after its last flush
-pub cause-closed : (o closed : Outcome) (left : Option (List Happening)) (reads reads' writes writes0 writes' : ℕ) (j : Journaled) (made allowed : ℕ) →
-    writes ≤ writes0 → writes0 ≤ writes' → Closes o closed writes0 writes' → HasCause o left reads reads' writes writes0 j made allowed →
+pub cause-closed : (o closed : Outcome) (left : Option (List Happening)) (reads reads' writes writes0 writes' : ℕ)
+    (j : Journaled) (made allowed : ℕ) → writes ≤ writes0 → writes0 ≤ writes' → Closes o closed writes0 writes' →
+    HasCause o left reads reads' writes writes0 j made allowed →
     HasCause closed left reads reads' writes writes' j made allowed
 cause-closed o closed left reads reads' writes writes0 writes' j made allowed w w' k e = elim k [
   | inl same ↦ subst (λ x. HasCause x left reads reads' writes writes' j made allowed) (sym same)

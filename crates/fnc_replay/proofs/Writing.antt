@@ -7,7 +7,8 @@ use Rattle.fnc_journal.specs.Line.{answers_text, end_line}
 use Rattle.fnc_outside.specs.Faults.{Rose}
 use Rattle.fnc_outside.specs.Told.{Gains, Keeps}
 use Rattle.fnc_outside.specs.Writes.{AppendsPart, HoldsPart}
-use Rattle.fnc_outside.proofs.Telling.{gains-holds, gains-keeps, holds-appended, holds-holds, holds-keeps, holds-more, rose-then, then-rose}
+use Rattle.fnc_outside.proofs.Telling.{gains-holds, gains-keeps, holds-appended, holds-holds, holds-keeps, holds-more}
+use Rattle.fnc_outside.proofs.Telling.{rose-then, then-rose}
 use Rattle.fnc_replay.specs.Session.{Printed, Wrote, after_failed_flush}
 
 -- all of a text was printed, or a part from the front of it

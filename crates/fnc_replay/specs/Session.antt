@@ -49,7 +49,8 @@ after_failed_flush outcome = outcome
 
 -- what the last flush makes of an outcome
 abbrev pub Closes : Outcome → Outcome → ℕ → ℕ → Type 0
-Closes outcome closed writes writes' = (closed ≡ outcome) ⊎ ((closed ≡ after_failed_flush outcome) × Rose writes writes')
+Closes outcome closed writes writes' =
+    (closed ≡ outcome) ⊎ ((closed ≡ after_failed_flush outcome) × Rose writes writes')
 
 -- nothing is left, where the source tells what is
 abbrev pub IsOver : Option (List Happening) → Type 0

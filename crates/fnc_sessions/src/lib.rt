@@ -1,4 +1,5 @@
-// Sessions of lines: what each writes and how it ends, on sources and sinks that wait and fail. Tests alone stand here.
+// Sessions of lines: what each writes and how it ends, on sources and sinks that wait and fail. Tests alone
+// stand here.
 #![tactic(auto)]
 
 #[cfg(test)]

@@ -41,12 +41,15 @@ loop-made-preserved g c =
     }
 
 pub returns-clause-served : goal.returns-clause-served
-returns-clause-served g c = subst (λ (h : History). IsServed h) (sym c.into_journal-2.ensures.history) (served-driven _ c.into_journal-2.ensures.sound (driven-rests _ c.loop-made.invariant.rests))
+returns-clause-served g c =
+    subst (λ (h : History). IsServed h) (sym c.into_journal-2.ensures.history)
+    (served-driven _ c.into_journal-2.ensures.sound (driven-rests _ c.loop-made.invariant.rests))
 
 pub returns-in-Some-clause-text : goal.returns-in-Some-clause-text
 returns-in-Some-clause-text g c =
     let before = c.loop-made.invariant in
-    let printed = printed-later c.in-Some.outcome _ _ _ _ _ c.turn.new.desk.history before.writes (c.in-Some.ensures.text _ before.text) in
+    let printed = printed-later c.in-Some.outcome _ _ _ _ _ c.turn.new.desk.history before.writes
+    (c.in-Some.ensures.text _ before.text) in
     subst (λ (h : History). Wrote c.close.result (g.K.Sink.held c.args.sink) (g.K.Sink.held c.close.new.sink)
     (g.K.Sink.faults c.args.sink) (g.K.Sink.faults c.close.new.sink) (g.K.Sink.unsent c.close.new.sink) h)
     (sym c.into_journal.ensures.history)
@@ -63,23 +66,29 @@ pub returns-in-Some-clause-cause : goal.returns-in-Some-clause-cause
 returns-in-Some-clause-cause g c =
     let before = c.loop-made.invariant in
     let turned = c.in-Some.ensures in
-    cause-closed c.in-Some.outcome c.close.result _ _ _ _ _ _ _ _ _ (omega (arith, before.writes, turned.writes)) c.close.ensures.writes c.close.ensures.closes
-    (cause-of c.in-Some.outcome _ _ _ _ _ _ _ c.turn.new.desk c.into_journal.result _ _ before.reads before.writes c.into_journal.ensures.history c.into_journal.ensures.limit turned.cause)
+    cause-closed c.in-Some.outcome c.close.result _ _ _ _ _ _ _ _ _
+    (omega (arith, before.writes, turned.writes)) c.close.ensures.writes c.close.ensures.closes
+    (cause-of c.in-Some.outcome _ _ _ _ _ _ _ c.turn.new.desk c.into_journal.result _ _
+    before.reads before.writes c.into_journal.ensures.history c.into_journal.ensures.limit turned.cause)
 
 pub returns-clause-cause : goal.returns-clause-cause
 returns-clause-cause g c =
-    cause-closed Outcome.Budget c.close-2.result _ _ _ _ _ _ c.into_journal-2.result _ _ c.loop-made.invariant.writes c.close-2.ensures.writes c.close-2.ensures.closes refl
+    cause-closed Outcome.Budget c.close-2.result _ _ _ _ _ _ c.into_journal-2.result _ _
+    c.loop-made.invariant.writes c.close-2.ensures.writes c.close-2.ensures.closes refl
 
 pub returns-in-Some-clause-heard : goal.returns-in-Some-clause-heard
 returns-in-Some-clause-heard g c =
     heard-closed c.in-Some.outcome c.close.result _ _ _ _ _ _ c.close.ensures.closes
-    (heard-cored c.in-Some.outcome _ _ _ c.turn.new.desk c.into_journal.result c.into_journal.ensures.history c.into_journal.ensures.limit
+    (heard-cored c.in-Some.outcome _ _ _ c.turn.new.desk c.into_journal.result
+    c.into_journal.ensures.history c.into_journal.ensures.limit
     (c.in-Some.ensures.heard _ c.loop-made.made c.loop-made.invariant.heard))
 
 pub returns-clause-heard : goal.returns-clause-heard
 returns-clause-heard g c =
     let all : c.loop-made.made ≡ c.args.polls = omega (arith, c.loop-made.auto.made-end, c.loop-made-test.false) in
     heard-closed Outcome.Budget c.close-2.result _ _ _ _ _ _ c.close-2.ensures.closes
-    (heard-cored Outcome.Budget _ _ _ _ c.into_journal-2.result c.into_journal-2.ensures.history c.into_journal-2.ensures.limit
-    (subst (λ n. Heard Outcome.Budget (g.S.Source.given c.args.source) (g.S.Source.given c.loop-made.source) n c.loop-made.desk) all
+    (heard-cored Outcome.Budget _ _ _ _ c.into_journal-2.result
+    c.into_journal-2.ensures.history c.into_journal-2.ensures.limit
+    (subst (λ n. Heard Outcome.Budget (g.S.Source.given c.args.source) (g.S.Source.given c.loop-made.source) n
+    c.loop-made.desk) all
     (heard-budget _ _ _ _ c.loop-made.invariant.heard)))

@@ -8,4 +8,5 @@ returns-in-Ok-clause-text g c = λ start h gained. gains-keeps start _ _ (answer
 
 pub returns-in-Err-clause-text : goal.returns-in-Err-clause-text
 returns-in-Err-clause-text g c = λ start h gained.
-    holds-more start _ (answers_text h) (end_line h) (gains-holds start _ _ (answers_text h) gained c.in-Err.ensures.err)
+    holds-more start _ (answers_text h) (end_line h)
+    (gains-holds start _ _ (answers_text h) gained c.in-Err.ensures.err)

@@ -39,7 +39,8 @@ returns-in-Full-clause-turns g c = λ rests. driven-passed _ _ _ _ rests c.in-Fu
 
 pub returns-in-Nothing-clause-text : goal.returns-in-Nothing-clause-text
 returns-in-Nothing-clause-text g c = λ start gained.
-    subst (λ (v : Cored). Puts c.send_on.result start (g.K.Sink.held c.send_on.new.sink) (g.K.Sink.faults c.args.sink.now) (g.K.Sink.faults c.send_on.new.sink) v.history)
+    subst (λ (v : Cored). Puts c.send_on.result start (g.K.Sink.held c.send_on.new.sink)
+    (g.K.Sink.faults c.args.sink.now) (g.K.Sink.faults c.send_on.new.sink) v.history)
     (sym c.in-Nothing.ensures.takes.0) (c.send_on.ensures.text start c.args.desk.now.history gained)
 
 pub returns-in-Nothing-clause-turns : goal.returns-in-Nothing-clause-turns
@@ -47,7 +48,8 @@ returns-in-Nothing-clause-turns g c = turns-still c.send_on.result _ _ c.in-Noth
 
 pub returns-in-Nothing-clause-heard : goal.returns-in-Nothing-clause-heard
 returns-in-Nothing-clause-heard g c = λ start made heard.
-    heard-again c.send_on.result start _ _ made _ _ _ _ heard c.in-Nothing.ensures.takes.0 c.in-Nothing.ensures.takes.1 c.send_on.ensures.cause
+    heard-again c.send_on.result start _ _ made _ _ _ _ heard
+    c.in-Nothing.ensures.takes.0 c.in-Nothing.ensures.takes.1 c.send_on.ensures.cause
 
 pub returns-in-Served-clause-heard : goal.returns-in-Served-clause-heard
 returns-in-Served-clause-heard g c = λ start made heard. heard-served c.write_on.result start _ _ made _ _ _ _ heard c.in-Served.ensures.takes c.write_on.ensures.cause
