@@ -50,7 +50,9 @@ fn enter(rt: &impl Abort, core: &mut Core, entry: Entry)
     let entered = match entry.event {
         Event::Pass => core.pass(moment).is_ok(),
         Event::Refused(refusal) => core.refuse(moment, refusal.line, refusal.cause).is_ok(),
-        Event::Exit(ended) => core.exit(moment, ended.run, ended.exit, ended.listed).is_ok(),
+        Event::Exit(ended) => core
+            .exit(moment, ended.run, ended.exit, ended.listed)
+            .is_ok(),
         event => match change_of(core, event) {
             Some(change) => core.note(moment, change).is_ok(),
             None => false,
@@ -128,7 +130,13 @@ fn tell(rt: &impl Abort, alloc: Global, core: &mut Core, step: &Step) -> Result<
     let line = step.line(alloc)?;
     match step {
         Step::Then(_) => return Ok(()),
-        Step::Ask(_, written) => ask(rt, alloc, core, &read_entry(alloc, line.as_slice())?, written)?,
+        Step::Ask(_, written) => ask(
+            rt,
+            alloc,
+            core,
+            &read_entry(alloc, line.as_slice())?,
+            written,
+        )?,
         _ => enter(rt, core, read_entry(alloc, line.as_slice())?),
     }
     start_all(core);
