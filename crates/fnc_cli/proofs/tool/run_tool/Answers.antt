@@ -12,3 +12,6 @@ returns-clause-cause g c = c.replay-replayed.ensures.cause
 
 pub returns-clause-heard : goal.returns-clause-heard
 returns-clause-heard g c = c.replay-replayed.ensures.heard
+
+pub returns-clause-limit : goal.returns-clause-limit
+returns-clause-limit g c = c.replay-replayed.ensures.limit
