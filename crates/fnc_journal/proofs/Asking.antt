@@ -1,5 +1,5 @@
 -- What a request changes of the operations that are open, where it begins its own.
-use Rattle.std.proofs.Common.{ℕ, List, [], ◌∷◌, ◌++◌, true, false, ◌≡◌, refl, ap, ◌∙◌, Some, None, arith, ◌==◌, ne_eqb, eq-eqb}
+use Rattle.std.proofs.Common.{ℕ, [], ◌∷◌, ◌++◌, true, false, ◌≡◌, refl, ap, ◌∙◌, Some, None, arith, ◌==◌, ne_eqb, eq-eqb}
 use Rattle.std.specs.Prelude.{filter, filter_map, option_and_then}
 use Rattle.std.specs.List.{AllByRecursion}
 use Rattle.fnc_journal.specs.declared.entry.Entry.{Entry}
@@ -11,7 +11,14 @@ use Rattle.fnc_journal.specs.Found.{Asked, asked, asks, is_answered}
 use Rattle.fnc_journal.specs.Slots.{operation_of}
 use Rattle.fnc_journal.specs.Operations.{operation, led, operations, requests, unanswered, is_open, open_operations}
 use Rattle.fnc_journal.specs.Lawful.{Lawful}
-use Rattle.fnc_journal.proofs.Each.{each-map, each-filter, filter-same, filter-append, filter_map-append, filter_map-same}
+use Rattle.fnc_journal.proofs.Each.{
+  each-map,
+  each-filter,
+  filter-same,
+  filter-append,
+  filter_map-append,
+  filter_map-same,
+}
 use Rattle.fnc_journal.proofs.Requests.{fresh_ask}
 use Rattle.fnc_journal.proofs.Fresh.{unasked_unanswered, unasked_unrequested, operations-small}
 

@@ -1,10 +1,48 @@
 -- How a session of lines keeps its journal Driven: each input is served in full before the next.
-use Rattle.std.proofs.Common.{ℕ, List, [], ◌∷◌, ◌++◌, Bool, true, false, ◌≡◌, ◌<◌, refl, ap, ◌∙◌, Option, Some, None, IsTrue, arith, ◌==◌, ◌&&◌, cond, eq-eqb, eqb-true, nat_lt, lt-ltb, le-ltb}
+use Rattle.std.proofs.Common.{
+  ℕ,
+  List,
+  [],
+  ◌∷◌,
+  ◌++◌,
+  Bool,
+  true,
+  false,
+  ◌≡◌,
+  ◌<◌,
+  refl,
+  ap,
+  ◌∙◌,
+  Option,
+  Some,
+  None,
+  IsTrue,
+  arith,
+  ◌==◌,
+  ◌&&◌,
+  cond,
+  eq-eqb,
+  eqb-true,
+  nat_lt,
+  lt-ltb,
+  le-ltb,
+}
 use Rattle.fnc_journal.specs.declared.entry.Entry.{Entry}
 use Rattle.fnc_journal.specs.declared.event.Event.{Event}
 use Rattle.fnc_journal.specs.History.{History}
 use Rattle.fnc_journal.specs.Found.{is_input, is_reply}
-use Rattle.fnc_journal.specs.Driven.{last_input, before_advance, advances, is_at_once, are_all_at, are_one, is_advance, rests, rests_after, rests_before}
+use Rattle.fnc_journal.specs.Driven.{
+  last_input,
+  before_advance,
+  advances,
+  is_at_once,
+  are_all_at,
+  are_one,
+  is_advance,
+  rests,
+  rests_after,
+  rests_before,
+}
 use Rattle.fnc_journal.specs.Served.{AtRest, AreReplies}
 
 -- a reply is no input

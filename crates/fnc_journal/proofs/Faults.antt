@@ -3,7 +3,20 @@ use Rattle.std.proofs.Common.{[], ◌∷◌, Bool, true, false, ◌≡◌, refl,
 use Rattle.fnc_journal.specs.declared.entry.Entry.{Entry}
 use Rattle.fnc_journal.specs.declared.outcome.Rule.{Rule}
 use Rattle.fnc_journal.specs.History.{History}
-use Rattle.fnc_journal.specs.Lawful.{Lawful, LawfulEntry, Fault, fault, fault_at, broken, order, exit, start, once, reply, prompt}
+use Rattle.fnc_journal.specs.Lawful.{
+  Lawful,
+  LawfulEntry,
+  Fault,
+  fault,
+  fault_at,
+  broken,
+  order,
+  exit,
+  start,
+  once,
+  reply,
+  prompt,
+}
 
 -- the first of the six rules that does not hold
 abbrev ladder : Bool → Bool → Bool → Bool → Bool → Bool → Option Rule

@@ -1,15 +1,64 @@
 -- Of a number to come a lawful journal knows nothing: no request, no reply, no run, no exit.
-use Rattle.std.proofs.Common.{ℕ, List, [], ◌∷◌, Bool, true, false, ◌≡◌, ◌≤◌, ◌<◌, ◌+◌, refl, Option, Some, None, IsTrue, arith, ◌==◌, ◌||◌, ◌&&◌, cond, eqb-true, ne_eqb, is_some, length}
+use Rattle.std.proofs.Common.{
+  ℕ,
+  List,
+  [],
+  ◌∷◌,
+  Bool,
+  true,
+  false,
+  ◌≡◌,
+  ◌≤◌,
+  ◌<◌,
+  ◌+◌,
+  refl,
+  Option,
+  Some,
+  None,
+  IsTrue,
+  arith,
+  ◌==◌,
+  ◌||◌,
+  ◌&&◌,
+  cond,
+  eqb-true,
+  ne_eqb,
+  is_some,
+  length,
+}
 use Rattle.std.specs.Prelude.{option_map, unwrap_or, filter, filter_map}
 use Rattle.std.specs.List.{AllByRecursion, cons_option}
 use Rattle.fnc_journal.specs.declared.event.Event.{Event}
 use Rattle.fnc_journal.specs.declared.entry.Kind.{Kind}
 use Rattle.fnc_journal.specs.History.{History}
 use Rattle.fnc_journal.specs.Missing.{or_here, append_some}
-use Rattle.fnc_journal.specs.Found.{asked, asks, starts, started, started_here, is_answered, is_reply_to, has_exit, is_exit_of, is_ask, is_start}
+use Rattle.fnc_journal.specs.Found.{
+  asked,
+  asks,
+  starts,
+  started,
+  started_here,
+  is_answered,
+  is_reply_to,
+  has_exit,
+  is_exit_of,
+  is_ask,
+  is_start,
+}
 use Rattle.fnc_journal.specs.Slots.{Operation}
 use Rattle.fnc_journal.specs.Acts.{Act, acts, act_here, cons_act}
-use Rattle.fnc_journal.specs.Operations.{requests, request_here, operations, operation_here, operation, is_open, open_operations, joined, is_joinable, settled}
+use Rattle.fnc_journal.specs.Operations.{
+  requests,
+  request_here,
+  operations,
+  operation_here,
+  operation,
+  is_open,
+  open_operations,
+  joined,
+  is_joinable,
+  settled,
+}
 use Rattle.fnc_journal.specs.Lawful.{Lawful, in_order, prompt, settled_since}
 use Rattle.fnc_journal.proofs.Each.{each-map, each-append, each-filter, found-each}
 use Rattle.fnc_journal.proofs.Lawfulness.{and-left, and-right, in_order-of}

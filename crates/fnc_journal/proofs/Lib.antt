@@ -1,6 +1,9 @@
+-- Proved here: what the definitions say of one more entry of a journal, the laws of lawful journals (runs, requests,
+-- levels, slots), and that the index answers as its searches.
 pub mod Finds
 pub mod SettledLanes
 pub mod LeastRegistrations
+pub mod RisingLevels
 pub mod Tables
 pub mod Forwards
 pub mod Frames

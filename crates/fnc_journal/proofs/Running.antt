@@ -1,5 +1,30 @@
 -- What a start and an exit change of the runs that are alive.
-use Rattle.std.proofs.Common.{ℕ, List, [], ◌∷◌, ◌++◌, Bool, true, false, ◌≡◌, refl, ap, ◌∙◌, arith, ◌==◌, ◌||◌, ◌&&◌, not, cond, is_some, sym, eqb-true, Option, Some, None}
+use Rattle.std.proofs.Common.{
+  ℕ,
+  List,
+  [],
+  ◌∷◌,
+  ◌++◌,
+  Bool,
+  true,
+  false,
+  ◌≡◌,
+  refl,
+  ap,
+  ◌∙◌,
+  arith,
+  ◌==◌,
+  ◌||◌,
+  ◌&&◌,
+  not,
+  cond,
+  is_some,
+  sym,
+  eqb-true,
+  Option,
+  Some,
+  None,
+}
 use Rattle.std.specs.Prelude.{filter}
 use Rattle.std.specs.List.{list_any}
 use Rattle.fnc_journal.specs.declared.event.Event.{Event}

@@ -1,5 +1,26 @@
 -- In a lawful journal each run is of one operation.
-use Rattle.std.proofs.Common.{ℕ, [], ◌∷◌, Bool, true, false, ◌≡◌, refl, ap, sym, ◌∙◌, Option, Some, None, IsTrue, arith, ◌==◌, cond, eqb-true, false-eqb}
+use Rattle.std.proofs.Common.{
+  ℕ,
+  [],
+  ◌∷◌,
+  Bool,
+  true,
+  false,
+  ◌≡◌,
+  refl,
+  ap,
+  sym,
+  ◌∙◌,
+  Option,
+  Some,
+  None,
+  IsTrue,
+  arith,
+  ◌==◌,
+  cond,
+  eqb-true,
+  false-eqb,
+}
 use Rattle.std.specs.Prelude.{option_map}
 use Rattle.fnc_journal.specs.declared.event.Event.{Event}
 use Rattle.fnc_journal.specs.declared.event.Start.{Start}

@@ -1,5 +1,23 @@
 -- A registered device: what its agent can do, which nodes it names, and how long it waits.
-use Rattle.std.specs.Prelude.{ℕ, List, [], ◌∷◌, Bool, true, false, ◌+◌, ◌-◌, ◌%◌, ◌||◌, if◌then◌else◌, nat_le, bytes_eq, find, option_map, unwrap_or}
+use Rattle.std.specs.Prelude.{
+  ℕ,
+  List,
+  [],
+  ◌∷◌,
+  Bool,
+  true,
+  false,
+  ◌+◌,
+  ◌-◌,
+  ◌%◌,
+  ◌||◌,
+  if◌then◌else◌,
+  nat_le,
+  bytes_eq,
+  find,
+  option_map,
+  unwrap_or,
+}
 use Rattle.std.specs.List.{list_any}
 use Rattle.fnc_journal.specs.declared.entry.Kind.{Kind}
 use Rattle.fnc_journal.specs.declared.definition.Allowed.{Allowed}
@@ -40,7 +58,8 @@ names d target = list_any (bytes_eq target) d.hosts || list_any (λ p. bytes_eq 
 
 -- what the device calls a node: its first port in the map, else its name
 abbrev pub port_of : Definition → List ℕ → List ℕ
-port_of d target = unwrap_or (option_map (λ (p : Pair). p.value) (find (λ (p : Pair). bytes_eq target p.name) d.map)) target
+port_of d target =
+    unwrap_or (option_map (λ (p : Pair). p.value) (find (λ (p : Pair). bytes_eq target p.name) d.map)) target
 
 -- off and reboot cut a node's power: they wait for their delay, and an operator's word can stand for them
 abbrev pub cuts_power : Kind → Bool

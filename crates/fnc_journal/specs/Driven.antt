@@ -1,6 +1,23 @@
 -- Journals of a session of lines: each input is followed by its replies and by all starts that it lets be made,
 -- and before the next input stand only the replies that its moment made due.
-use Rattle.std.specs.Prelude.{ℕ, List, [], ◌∷◌, Bool, true, false, ◌==◌, ◌&&◌, if◌then◌else◌, nat_lt, Option, Some, None, IsTrue, is_none}
+use Rattle.std.specs.Prelude.{
+  ℕ,
+  List,
+  [],
+  ◌∷◌,
+  Bool,
+  true,
+  false,
+  ◌==◌,
+  ◌&&◌,
+  if◌then◌else◌,
+  nat_lt,
+  Option,
+  Some,
+  None,
+  IsTrue,
+  is_none,
+}
 use Rattle.std.specs.List.{list_all}
 use Rattle.fnc_journal.specs.declared.entry.Entry.{Entry}
 use Rattle.fnc_journal.specs.History.{History}

@@ -1,6 +1,28 @@
 -- What is printed of a journal: the output line of each entry, and the line at its end.
--- Names are printed escaped: letters, digits and four marks stand for themselves, every other byte is `%` and two hexadecimal digits.
-use Rattle.std.specs.Prelude.{ℕ, List, [], ◌∷◌, ◌++◌, Bool, ◌==◌, ◌||◌, ◌&&◌, ◌/◌, ◌%◌, ◌+◌, if◌then◌else◌, nat_le, nat_lt, length, codes, decimal, option_map, unwrap_or}
+-- Names are printed escaped: letters, digits and four marks stand for themselves, every other byte is `%` and two
+-- hexadecimal digits.
+use Rattle.std.specs.Prelude.{
+  ℕ,
+  List,
+  [],
+  ◌∷◌,
+  ◌++◌,
+  Bool,
+  ◌==◌,
+  ◌||◌,
+  ◌&&◌,
+  ◌/◌,
+  ◌%◌,
+  ◌+◌,
+  if◌then◌else◌,
+  nat_le,
+  nat_lt,
+  length,
+  codes,
+  decimal,
+  option_map,
+  unwrap_or,
+}
 use Rattle.std.specs.List.{flat_map}
 use Rattle.fnc_journal.specs.declared.entry.Answer.{Answer}
 use Rattle.fnc_journal.specs.declared.event.Event.{Event}
@@ -56,14 +78,18 @@ target_of req h = unwrap_or (option_map (λ (a : Asked). a.target) (asked req h)
 -- `start RUN DEVICE KIND TARGET try ATTEMPT`
 abbrev pub start_line : ℕ → List ℕ → Kind → List ℕ → ℕ → List ℕ
 start_line run device kind target attempt =
-    codes "start " ++ decimal run ++ codes " " ++ escaped device ++ codes " " ++ kind_word kind ++ codes " " ++ escaped target
+    codes "start " ++ decimal run ++ codes " " ++ escaped device ++ codes " " ++ kind_word kind ++ codes " "
+    ++ escaped target
     ++ codes " try " ++ decimal attempt ++ codes "\n"
 
 -- the line of an entry after those before it: of a start, a reply and a refusal; no byte of any other
 abbrev pub line_of : Event → History → List ℕ
-line_of (Event.Start start) before = start_line start.run.0 (name_of start.reg.0 before) start.kind (target_of start.req.0 before) start.attempt
-line_of (Event.Reply reply) before = codes "answer " ++ decimal reply.req.0 ++ codes " " ++ answer_words reply.answer ++ codes "\n"
-line_of (Event.Refused refusal) before = codes "refused " ++ decimal refusal.line ++ codes " " ++ word_of refusal.cause ++ codes "\n"
+line_of (Event.Start start) before =
+    start_line start.run.0 (name_of start.reg.0 before) start.kind (target_of start.req.0 before) start.attempt
+line_of (Event.Reply reply) before =
+    codes "answer " ++ decimal reply.req.0 ++ codes " " ++ answer_words reply.answer ++ codes "\n"
+line_of (Event.Refused refusal) before =
+    codes "refused " ++ decimal refusal.line ++ codes " " ++ word_of refusal.cause ++ codes "\n"
 line_of _ before = []
 
 -- the lines of the entries in order: the text of a journal in form Answers

@@ -35,4 +35,12 @@ impl<T> Boxed<T> {
     {
         &self.inner
     }
+
+    /// The value, whose memory of its own is given back.
+    pub fn into_inner(self) -> T
+        ensures { result ≡ self }
+    {
+        let Boxed { inner } = self;
+        Box::into_inner(inner)
+    }
 }

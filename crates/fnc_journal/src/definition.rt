@@ -2,6 +2,8 @@
 
 ghost use Rattle.std.specs.Prelude.{◌≡◌, ◌<◌, ◌^◌};
 ghost use Rattle.fnc_journal.specs.Device as Device;
+ghost use Rattle.fnc_journal.specs.Plan as Plan;
+ghost use Rattle.fnc_journal.specs.Slots as Slots;
 
 use crate::entry::Kind;
 use crate::names::{Names, Pairs, find_pair, has_name, has_pair};
@@ -15,6 +17,30 @@ pub enum HostCheck {
     StaticList,
     Status,
     Nothing,
+}
+
+impl HostCheck {
+    /// Whether it leaves a node out, which the device names or does not name: a static list leaves out
+    /// what it does not name.
+    pub fn excludes(self, is_named: bool) -> bool
+        ensures { result ≡ Plan.excludes self is_named }
+    {
+        match self {
+            HostCheck::StaticList => !is_named,
+            _ => false,
+        }
+    }
+
+    /// The query that says whether the device can fence a node. None where none is made.
+    pub fn query(self) -> Option<Kind>
+        ensures { result ≡ Plan.asked_by self }
+    {
+        match self {
+            HostCheck::DynamicList => Some(Kind::List),
+            HostCheck::Status => Some(Kind::Status),
+            _ => None,
+        }
+    }
 }
 
 /// The actions that an agent has.
@@ -130,6 +156,42 @@ impl Definition {
         }
     }
 
+    /// Whether the device can serve a request for an action without levels. A reboot needs only off.
+    pub fn serves(&self, kind: Kind) -> bool
+        ensures { result ≡ Device.serves self.now kind }
+    {
+        match kind {
+            Kind::Reboot => self.actions.off,
+            _ => self.has(kind),
+        }
+    }
+
+    /// Whether the device has what a level wants of it for an action. Only on can be wanting.
+    pub fn is_fit(&self, kind: Kind) -> bool
+        ensures { result ≡ Slots.is_fit kind self.now }
+    {
+        match kind {
+            Kind::On => self.actions.on,
+            _ => true,
+        }
+    }
+
+    /// What is run where an action is wanted: a device without reboot is switched off.
+    pub fn acting(&self, kind: Kind) -> Kind
+        ensures { result ≡ Slots.acting kind self.now }
+    {
+        match kind {
+            Kind::Reboot => {
+                if self.actions.reboot {
+                    Kind::Reboot
+                } else {
+                    Kind::Off
+                }
+            }
+            _ => kind,
+        }
+    }
+
     /// Whether the definition names the target, as a host or in its map.
     pub fn names(&self, target: &str) -> bool
         ensures { result ≡ Device.names self.now target.now }
@@ -151,9 +213,10 @@ impl Definition {
     pub fn delay_of(&self, kind: Kind, target: &str, coin: u64) -> u64
         ensures { result ≡ Device.delay self.now kind target.now coin }
     {
-        match kind {
-            Kind::Off | Kind::Reboot => drawn(self.base.of(target), self.max, coin),
-            _ => 0,
+        if kind.cuts_power() {
+            drawn(self.base.of(target), self.max, coin)
+        } else {
+            0
         }
     }
 }

@@ -2,6 +2,7 @@
 
 use crate::entry::Entry;
 use crate::index::Index;
+use crate::limits::{GREATEST_JOURNAL, LEAST_JOURNAL};
 use crate::outcome::NoMemory;
 use std::alloc::Global;
 use std::marker::Model;
@@ -35,8 +36,8 @@ ghost use Rattle.fnc_journal.specs.Index.{IsIndex};
 impl Journal {
     /// An empty journal with room for `limit` entries, all of which is taken here.
     pub fn with_limit(alloc: Global, limit: u32) -> Result<Journal, NoMemory>
-        requires least { 16_384 ≤ limit }
-        requires most { limit ≤ 1_048_576 }
+        requires least { LEAST_JOURNAL ≤ limit }
+        requires most { limit ≤ GREATEST_JOURNAL }
         ensures history { IfOk result (λ j. j.history ≡ []) }
         ensures limit { IfOk result (λ j. j.limit ≡ limit) }
     {

@@ -12,8 +12,6 @@ mod event;
 mod firsts;
 mod heads;
 mod index;
-#[cfg(test)]
-mod index_tests;
 mod journal;
 mod lanes;
 pub mod limits;
@@ -25,8 +23,6 @@ mod outcome;
 mod plan;
 mod sequence;
 mod stray;
-#[cfg(test)]
-mod tests;
 mod text;
 
 pub use boxed::Boxed;

@@ -1,5 +1,8 @@
 -- Parts of the rules of an entry, as the definitions say them.
-use Rattle.std.proofs.Common.{ℕ, List, [], ◌∷◌, Bool, true, false, ◌≡◌, ◌≤◌, ◌+◌, ◌==◌, ◌&&◌, ◌||◌, cond, refl, arith, eq-eqb, Option, Some, None, length}
+use Rattle.std.proofs.Common.{
+  ℕ, List, [], ◌∷◌, Bool, true, false, ◌≡◌, ◌≤◌, ◌+◌, ◌==◌, ◌&&◌, ◌||◌, cond, refl, arith, eq-eqb, Option, Some, None,
+  length,
+}
 use Rattle.std.specs.Prelude.{find, is_some, option_map}
 use Rattle.std.specs.List.{list_any}
 use Rattle.fnc_journal.specs.declared.event.Event.{Event}

@@ -1,5 +1,8 @@
 -- What is seen of a slot, one act after another.
-use Rattle.std.proofs.Common.{ℕ, List, [], ◌∷◌, Bool, true, false, ◌≡◌, ◌≤◌, ◌+◌, ◌==◌, ◌&&◌, ◌||◌, ◌<◌, ◌∙◌, not, cond, refl, sym, ap, Option, Some, None, arith, length, ltb, le-ltb}
+use Rattle.std.proofs.Common.{
+  ℕ, List, [], ◌∷◌, Bool, true, false, ◌≡◌, ◌≤◌, ◌+◌, ◌==◌, ◌&&◌, ◌||◌, ◌<◌, ◌∙◌, not, cond, refl, sym, ap, Option,
+  Some, None, arith, length, ltb, le-ltb,
+}
 use Rattle.std.specs.Prelude.{option_map, is_some}
 use Rattle.fnc_journal.specs.declared.event.Event.{Event}
 use Rattle.fnc_journal.specs.declared.entry.Slot.{Slot}
@@ -10,8 +13,13 @@ use Rattle.fnc_journal.proofs.Prefixes.{prefix-all}
 use Rattle.fnc_journal.specs.Same.{same_slot}
 use Rattle.fnc_journal.specs.Exits.{is_success}
 use Rattle.fnc_journal.specs.Slots.{Task}
-use Rattle.fnc_journal.specs.Acts.{Act, acts, act_here, cons_act, slot_of_run, failed, fails_here, begun_at, success_at, has_succeeded, succeeds_here, moment_of, is_query, answered, confirmed, concluded, spent}
-use Rattle.fnc_search.specs.Seen.{answered_by, confirmed_by, concluded_by, begun_slot, seen_of, seen_with, is_in_time_by, first_start_of, starts_for}
+use Rattle.fnc_journal.specs.Acts.{
+  Act, acts, act_here, cons_act, slot_of_run, failed, fails_here, begun_at, success_at, has_succeeded, succeeds_here,
+  moment_of, is_query, answered, confirmed, concluded, spent,
+}
+use Rattle.fnc_search.specs.Seen.{
+  answered_by, confirmed_by, concluded_by, begun_slot, seen_of, seen_with, is_in_time_by, first_start_of, starts_for,
+}
 
 pub slot-more : (o n m : ℕ) (event : Event) (h : History) →
     or_here (slot_of_run n (acts o h)) (begun_slot o n event) ≡ slot_of_run n (acts o (record { moment = m; event = event } ∷ h))

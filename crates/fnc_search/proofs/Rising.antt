@@ -1,5 +1,8 @@
 -- Levels stand by rising index, so that each is found by its index, and one after the other.
-use Rattle.std.proofs.Common.{ℕ, List, [], ◌∷◌, Bool, true, false, ◌≡◌, ◌≤◌, ◌<◌, ◌+◌, ◌==◌, ◌&&◌, max, cond, refl, sym, ap, subst, ◌∙◌, Option, Some, None, arith, length, ltb, ltb-true, ltb-false, lt-ltb, le-ltb, eqb-true, false-eqb, ne_eqb}
+use Rattle.std.proofs.Common.{
+  ℕ, List, [], ◌∷◌, Bool, true, false, ◌≡◌, ◌≤◌, ◌<◌, ◌+◌, ◌==◌, ◌&&◌, max, cond, refl, sym, ap, subst, ◌∙◌, Option,
+  Some, None, arith, length, ltb, ltb-true, ltb-false, lt-ltb, le-ltb, eqb-true, false-eqb, ne_eqb,
+}
 use Rattle.std.specs.Prelude.{find}
 use Rattle.std.specs.List.{AllByRecursion}
 use Rattle.fnc_journal.specs.declared.event.Event.{Event}

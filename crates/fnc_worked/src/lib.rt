@@ -4,6 +4,8 @@
 #![tactic(auto)]
 
 mod confirmed;
+#[cfg(test)]
+mod constructors;
 mod deadlines;
 mod delays;
 mod faulty_inputs;
@@ -17,6 +19,8 @@ mod one_device;
 mod owed;
 #[cfg(test)]
 mod printed;
+#[cfg(test)]
+mod pushed;
 mod queries;
 mod refusals;
 mod split_reboots;

@@ -1,14 +1,11 @@
 // The index of a journal beside plain searches of what was pushed: over journals that no fencer makes,
 // with numbers doubled, missing, out of order and huge.
 
-use crate::boxed::Boxed;
-use crate::definition::{Actions, Allowed, Base, Definition, HostCheck, Registration};
-use crate::entry::{Answer, Entry, Exit, Kind, Phase, Reg, Req, Run, Scope, Slot};
-use crate::event::{Ended, Event, Registered, Reply, Request, Start};
-use crate::journal::Journal;
-use crate::names::{Names, Pairs};
-use crate::outcome::NoMemory;
-use crate::text::Text;
+use fnc_journal::{
+    Actions, Allowed, Answer, Base, Boxed, Definition, Ended, Entry, Event, Exit, HostCheck,
+    Journal, Kind, Names, NoMemory, Pairs, Phase, Reg, Registered, Registration, Reply, Req,
+    Request, Run, Scope, Slot, Start, Text,
+};
 use std::alloc::Global;
 use std::mem::size_of;
 use std::process::Abort;

@@ -1,10 +1,6 @@
 // Each constructor that takes memory, once with enough of it.
 
-use crate::entry::Entry;
-use crate::event::Event;
-use crate::journal::Journal;
-use crate::names::Names;
-use crate::text::{Bytes, Text};
+use fnc_journal::{Bytes, Entry, Event, Journal, Names, Text};
 use std::test::Fail;
 
 #[test]
