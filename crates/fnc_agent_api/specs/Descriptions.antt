@@ -1,6 +1,30 @@
 -- What the description of an agent says: a JSON object with its actions, its parameters, and the parameter that
 -- takes the node.
-use Rattle.std.specs.Prelude.{◌≡◌, ℕ, List, [], ◌∷◌, ◌+◌, ◌&&◌, ◌||◌, Bool, true, false, if◌then◌else◌, Option, Some, None, Result, Ok, Err, nat_le, bytes_eq, codes, is_some, option_and_then}
+use Rattle.std.specs.Prelude.{
+  ◌≡◌,
+  ℕ,
+  List,
+  [],
+  ◌∷◌,
+  ◌+◌,
+  ◌&&◌,
+  ◌||◌,
+  Bool,
+  true,
+  false,
+  if◌then◌else◌,
+  Option,
+  Some,
+  None,
+  Result,
+  Ok,
+  Err,
+  nat_le,
+  bytes_eq,
+  codes,
+  is_some,
+  option_and_then,
+}
 use Rattle.std.specs.Str.{is_utf8}
 use Rattle.serde_json.specs.Data.{Data, Items, no_items, item}
 use Rattle.serde_json.specs.Find.{get, as_array, as_bool, as_object, as_str}

@@ -1,5 +1,25 @@
 -- What an agent is sent: the action's word, the node's name, its port, and the device's own options.
-use Rattle.std.specs.Prelude.{ℕ, List, [], ◌∷◌, ◌++◌, ◌-◌, ◌==◌, ◌&&◌, Bool, false, not, Option, Some, None, length, slice_index, option_to_list, codes, IsTrue}
+use Rattle.std.specs.Prelude.{
+  ℕ,
+  List,
+  [],
+  ◌∷◌,
+  ◌++◌,
+  ◌-◌,
+  ◌==◌,
+  ◌&&◌,
+  Bool,
+  false,
+  not,
+  Option,
+  Some,
+  None,
+  length,
+  slice_index,
+  option_to_list,
+  codes,
+  IsTrue,
+}
 use Rattle.std.specs.List.{list_all, flat_map}
 use Rattle.fnc_journal.specs.Bounds.{is_option_byte, is_value_byte}
 use Rattle.fnc_journal.specs.declared.names.Pair.{Pair}

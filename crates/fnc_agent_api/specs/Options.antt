@@ -1,5 +1,29 @@
 -- The options that a fence agent reads on its standard input: one `name=value` a line.
-use Rattle.std.specs.Prelude.{◌≡◌, ℕ, List, [], ◌∷◌, ◌++◌, ◌+◌, ◌==◌, if◌then◌else◌, Bool, true, Option, Some, None, Result, Ok, Err, length, nat_lt, reverse, find, option_map, bytes_eq}
+use Rattle.std.specs.Prelude.{
+  ◌≡◌,
+  ℕ,
+  List,
+  [],
+  ◌∷◌,
+  ◌++◌,
+  ◌+◌,
+  ◌==◌,
+  if◌then◌else◌,
+  Bool,
+  true,
+  Option,
+  Some,
+  None,
+  Result,
+  Ok,
+  Err,
+  length,
+  nat_lt,
+  reverse,
+  find,
+  option_map,
+  bytes_eq,
+}
 use Rattle.std.specs.List.{list_any}
 use Rattle.std.specs.Str.{is_utf8}
 use Rattle.fnc_journal.specs.declared.limits.TheConstants.{LONGEST_OPTIONS}

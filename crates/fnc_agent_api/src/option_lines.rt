@@ -1,6 +1,7 @@
 // What a fencer sends to an agent.
 
-ghost use Rattle.std.specs.Prelude.{◌≡◌, ◌≤◌, ◌++◌, [], ◌∷◌, length, option_to_list, Ok, IfOk, OnOk, string_bytes, codes};
+ghost use Rattle.std.specs.Prelude.{◌≡◌, ◌≤◌, ◌++◌, [], ◌∷◌, length, option_to_list, Ok, IfOk, OnOk, string_bytes};
+ghost use Rattle.std.specs.Prelude.{codes};
 ghost use Rattle.std.specs.Option.{option_copied};
 ghost use Rattle.fnc_agent_api.specs.Options.{options_of, pair};
 ghost use Rattle.fnc_agent_api.specs.OptionLines.{AreSendable, sent, node_option, option_line, option_lines};

@@ -2,7 +2,8 @@
 
 ghost use Rattle.std.specs.Prelude.{◌≡◌, ◌+◌, ◌<◌, ◌≤◌, ◌^◌, length, option_map, IfOk, IfErr};
 ghost use Rattle.std.specs.Option.{option_copied};
-ghost use Rattle.fnc_agent_api.specs.Options.{options_of, pairs_of, pair_of, parts_of, pair, is_skipped, last_value, Gives, Fails, Adds};
+ghost use Rattle.fnc_agent_api.specs.Options.{options_of, pairs_of, pair_of, parts_of, pair, is_skipped, last_value};
+ghost use Rattle.fnc_agent_api.specs.Options.{Gives, Fails, Adds};
 ghost use Rattle.fnc_agent_api.specs.Cuts.{lines_of};
 ghost use Rattle.fnc_agent_api.specs.Blanks.{trimmed};
 

@@ -1,5 +1,24 @@
 -- The words of `ask`, with its options: the total, and in mode Timed the coin.
-use Rattle.std.specs.Prelude.{ℕ, List, [], ◌∷◌, if◌then◌else◌, nat_le, length, codes, bytes_eq, is_none, ok_or, unwrap_or, Option, Some, None, Result, Ok, Err}
+use Rattle.std.specs.Prelude.{
+  ℕ,
+  List,
+  [],
+  ◌∷◌,
+  if◌then◌else◌,
+  nat_le,
+  length,
+  codes,
+  bytes_eq,
+  is_none,
+  ok_or,
+  unwrap_or,
+  Option,
+  Some,
+  None,
+  Result,
+  Ok,
+  Err,
+}
 use Rattle.fnc_journal.specs.declared.limits.TheConstants.{DEFAULT_TOTAL}
 use Rattle.fnc_journal.specs.declared.cause.Cause.{Cause}
 use Rattle.fnc_text.specs.declared.duration.DurationFault.{DurationFault}

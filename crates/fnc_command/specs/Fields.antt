@@ -1,5 +1,22 @@
 -- What one word says.
-use Rattle.std.specs.Prelude.{ℕ, List, ◌==◌, not, ◌&&◌, Bool, if◌then◌else◌, codes, bytes_eq, ok_or, Option, Some, None, Result, Ok, Err}
+use Rattle.std.specs.Prelude.{
+  ℕ,
+  List,
+  ◌==◌,
+  not,
+  ◌&&◌,
+  Bool,
+  if◌then◌else◌,
+  codes,
+  bytes_eq,
+  ok_or,
+  Option,
+  Some,
+  None,
+  Result,
+  Ok,
+  Err,
+}
 use Rattle.std.specs.List.{list_any}
 use Rattle.std.specs.Str.{is_utf8}
 use Rattle.fnc_journal.specs.declared.cause.Cause.{Cause}

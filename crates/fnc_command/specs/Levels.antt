@@ -1,5 +1,20 @@
 -- Targets and devices of a level.
-use Rattle.std.specs.Prelude.{ℕ, List, [], ◌∷◌, Bool, false, ◌&&◌, ◌==◌, if◌then◌else◌, nat_le, length, drop, Result, Ok}
+use Rattle.std.specs.Prelude.{
+  ℕ,
+  List,
+  [],
+  ◌∷◌,
+  Bool,
+  false,
+  ◌&&◌,
+  ◌==◌,
+  if◌then◌else◌,
+  nat_le,
+  length,
+  drop,
+  Result,
+  Ok,
+}
 use Rattle.std.specs.List.{list_all, slice_split}
 use Rattle.fnc_journal.specs.declared.limits.TheConstants.{LONGEST_NAME}
 use Rattle.fnc_journal.specs.declared.cause.Cause.{Cause}

@@ -1,5 +1,22 @@
 -- The line language: what a whole line says, or the first cause why it says nothing.
-use Rattle.std.specs.Prelude.{ℕ, List, [], ◌∷◌, if◌then◌else◌, nat_lt, length, codes, bytes_eq, ok_or, Option, Some, None, Result, Ok, Err}
+use Rattle.std.specs.Prelude.{
+  ℕ,
+  List,
+  [],
+  ◌∷◌,
+  if◌then◌else◌,
+  nat_lt,
+  length,
+  codes,
+  bytes_eq,
+  ok_or,
+  Option,
+  Some,
+  None,
+  Result,
+  Ok,
+  Err,
+}
 use Rattle.std.specs.Option.{option_or}
 use Rattle.std.specs.Str.{is_utf8}
 use Rattle.fnc_journal.specs.declared.limits.TheConstants.{GREATEST_MOMENT, LONGEST_LINE}

@@ -1,5 +1,23 @@
 -- Option words: a name, an equals sign and a value. And the words of a device, which has any number of them.
-use Rattle.std.specs.Prelude.{ℕ, List, [], ◌∷◌, ◌+◌, ◌==◌, if◌then◌else◌, take, drop, is_some, option_map, Option, Some, None, Result, Ok, Err}
+use Rattle.std.specs.Prelude.{
+  ℕ,
+  List,
+  [],
+  ◌∷◌,
+  ◌+◌,
+  ◌==◌,
+  if◌then◌else◌,
+  take,
+  drop,
+  is_some,
+  option_map,
+  Option,
+  Some,
+  None,
+  Result,
+  Ok,
+  Err,
+}
 use Rattle.std.specs.List.{position}
 use Rattle.fnc_journal.specs.declared.cause.Cause.{Cause}
 use Rattle.fnc_journal.specs.declared.names.Pair.{Pair}

@@ -3,7 +3,8 @@
 ghost use Rattle.std.specs.Prelude.{◌≡◌, ◌≤◌, length, nat_le, IfOk, MatchResult, Ok, Err, Some};
 ghost use Rattle.fnc_text.specs.Words.{words};
 ghost use Rattle.fnc_command.specs.Answers.{Tells};
-ghost use Rattle.fnc_command.specs.Asks.{asking, option_name, at_least_one, with_option, with_cut, with_words, no_options, said_ask};
+ghost use Rattle.fnc_command.specs.Asks.{asking, option_name, at_least_one, with_option, with_cut, with_words};
+ghost use Rattle.fnc_command.specs.Asks.{no_options, said_ask};
 ghost use Rattle.fnc_command.specs.Options.{cut_option};
 ghost use Rattle.fnc_command.specs.declared.ask.OptionName.{OptionName};
 ghost use Rattle.fnc_text.specs.Durations.{duration};

@@ -4,7 +4,8 @@
 ghost use Rattle.std.specs.Prelude.{◌≡◌, ◌≤◌, bytes_eq, length, Ok, IfOk, MatchResult};
 ghost use Rattle.std.specs.Str.{is_utf8};
 ghost use Rattle.fnc_command.specs.Answers.{Tells};
-ghost use Rattle.fnc_command.specs.Fields.{passing, text_of, name_of, agent_of, number_of, action_of, exit_of, has_equals, action, exit, named_exit};
+ghost use Rattle.fnc_command.specs.Fields.{passing, text_of, name_of, agent_of, number_of, action_of, exit_of};
+ghost use Rattle.fnc_command.specs.Fields.{has_equals, action, exit, named_exit};
 
 use crate::spelling::spell;
 use fnc_journal::{Bytes, Cause, Exit, Kind, Text};

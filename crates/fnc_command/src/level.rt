@@ -5,7 +5,8 @@ ghost use Rattle.std.specs.List.{list_all};
 ghost use Rattle.fnc_text.specs.Names.{is_name};
 ghost use Rattle.fnc_text.specs.Words.{words};
 ghost use Rattle.fnc_command.specs.Answers.{Tells};
-ghost use Rattle.fnc_command.specs.Levels.{is_marked, pattern_of, target_of, comma_parts, devices_of, said_level, said_unlevel};
+ghost use Rattle.fnc_command.specs.Levels.{is_marked, pattern_of, target_of, comma_parts, devices_of, said_level};
+ghost use Rattle.fnc_command.specs.Levels.{said_unlevel};
 
 use crate::command::Command;
 use crate::field::{name, number, text};

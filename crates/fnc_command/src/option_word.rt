@@ -1,6 +1,7 @@
 // Option words: a name, an equals sign and a value.
 
-ghost use Rattle.std.specs.Prelude.{◌≡◌, ◌==◌, ◌+◌, ◌<◌, ◌≤◌, ◌++◌, [], ◌∷◌, length, IfSome, MatchOption, MatchResult, None, Some};
+ghost use Rattle.std.specs.Prelude.{◌≡◌, ◌==◌, ◌+◌, ◌<◌, ◌≤◌, ◌++◌, [], ◌∷◌, length, IfSome, MatchOption, MatchResult};
+ghost use Rattle.std.specs.Prelude.{None, Some};
 ghost use Rattle.std.specs.List.{position};
 ghost use Rattle.fnc_text.specs.Words.{words};
 ghost use Rattle.fnc_command.specs.Answers.{Tells};

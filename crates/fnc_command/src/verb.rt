@@ -3,7 +3,8 @@
 ghost use Rattle.std.specs.Prelude.{◌≡◌, ◌≤◌, length, Ok, Err, IfOk, MatchResult};
 ghost use Rattle.fnc_text.specs.Words.{words};
 ghost use Rattle.fnc_command.specs.Answers.{Tells};
-ghost use Rattle.fnc_command.specs.Commands.{said_remove, said_pass, said_confirm, said_agent, said_exit, exit_words, ended};
+ghost use Rattle.fnc_command.specs.Commands.{said_remove, said_pass, said_confirm, said_agent, said_exit, exit_words};
+ghost use Rattle.fnc_command.specs.Commands.{ended};
 
 use crate::command::Command;
 use crate::field::{agent_name, copy_bytes, exit, name, number};

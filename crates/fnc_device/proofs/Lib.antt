@@ -1,3 +1,4 @@
+-- Proved here: `define` gives what the options say or their first fault, and what it gives is within the bounds.
 pub mod OptionLemmas
 pub mod Reading
 pub mod Inversion

@@ -1,5 +1,20 @@
 -- What each action is allowed: the word that the agent is sent, its time, and its tries.
-use Rattle.std.specs.Prelude.{ℕ, List, ◌++◌, ◌==◌, if◌then◌else◌, max, Option, Some, None, Result, Ok, Err, unwrap_or, codes}
+use Rattle.std.specs.Prelude.{
+  ℕ,
+  List,
+  ◌++◌,
+  ◌==◌,
+  if◌then◌else◌,
+  max,
+  Option,
+  Some,
+  None,
+  Result,
+  Ok,
+  Err,
+  unwrap_or,
+  codes,
+}
 use Rattle.fnc_journal.specs.declared.limits.TheConstants.{DEFAULT_TIME, DEFAULT_TRIES, MOST_TRIES}
 use Rattle.fnc_journal.specs.declared.definition.Allowed.{Allowed}
 use Rattle.fnc_journal.specs.declared.entry.Kind.{Kind}

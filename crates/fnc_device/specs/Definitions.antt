@@ -1,5 +1,23 @@
 -- What the options of a device define, with the description of its agent.
-use Rattle.std.specs.Prelude.{ℕ, List, [], ◌∷◌, Bool, false, not, ◌&&◌, if◌then◌else◌, Option, Some, None, Result, Ok, Err, bytes_eq, codes}
+use Rattle.std.specs.Prelude.{
+  ℕ,
+  List,
+  [],
+  ◌∷◌,
+  Bool,
+  false,
+  not,
+  ◌&&◌,
+  if◌then◌else◌,
+  Option,
+  Some,
+  None,
+  Result,
+  Ok,
+  Err,
+  bytes_eq,
+  codes,
+}
 use Rattle.fnc_journal.specs.declared.definition.Definition.{Definition}
 use Rattle.fnc_journal.specs.declared.definition.Description.{Description}
 use Rattle.fnc_journal.specs.declared.definition.Parameter.{Parameter}

@@ -1,5 +1,19 @@
 -- The nodes that a device serves, how it is asked for them, and the option that carries a node's port.
-use Rattle.std.specs.Prelude.{ℕ, List, [], if◌then◌else◌, Option, Some, None, Result, Ok, Err, unwrap_or, bytes_eq, codes}
+use Rattle.std.specs.Prelude.{
+  ℕ,
+  List,
+  [],
+  if◌then◌else◌,
+  Option,
+  Some,
+  None,
+  Result,
+  Ok,
+  Err,
+  unwrap_or,
+  bytes_eq,
+  codes,
+}
 use Rattle.fnc_journal.specs.declared.definition.Actions.{Actions}
 use Rattle.fnc_journal.specs.declared.definition.HostCheck.{HostCheck}
 use Rattle.fnc_journal.specs.declared.names.Pair.{Pair}

@@ -1,5 +1,29 @@
 -- The options of a device: which are well formed, which are passed on to the agent, and what one says.
-use Rattle.std.specs.Prelude.{ℕ, List, [], ◌∷◌, ◌++◌, Bool, true, not, ◌&&◌, ◌||◌, if◌then◌else◌, nat_eq, nat_lt, length, filter, find, Option, option_map, Result, Ok, Err, bytes_eq, codes}
+use Rattle.std.specs.Prelude.{
+  ℕ,
+  List,
+  [],
+  ◌∷◌,
+  ◌++◌,
+  Bool,
+  true,
+  not,
+  ◌&&◌,
+  ◌||◌,
+  if◌then◌else◌,
+  nat_eq,
+  nat_lt,
+  length,
+  filter,
+  find,
+  Option,
+  option_map,
+  Result,
+  Ok,
+  Err,
+  bytes_eq,
+  codes,
+}
 use Rattle.std.specs.List.{list_any, ends_with}
 use Rattle.fnc_journal.specs.declared.limits.TheConstants.{MOST_OPTIONS}
 use Rattle.fnc_journal.specs.declared.entry.Kind.{Kind}

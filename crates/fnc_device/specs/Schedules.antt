@@ -1,6 +1,24 @@
 -- When and where a device's actions may start: the delay before them, how many may run at once, and
 -- the place of the device among others.
-use Rattle.std.specs.Prelude.{ℕ, List, [], ◌∷◌, ◌==◌, if◌then◌else◌, Option, Some, None, Result, Ok, Err, bytes_eq, codes, ℤ, pos, neg_ℤ}
+use Rattle.std.specs.Prelude.{
+  ℕ,
+  List,
+  [],
+  ◌∷◌,
+  ◌==◌,
+  if◌then◌else◌,
+  Option,
+  Some,
+  None,
+  Result,
+  Ok,
+  Err,
+  bytes_eq,
+  codes,
+  ℤ,
+  pos,
+  neg_ℤ,
+}
 use Rattle.std.specs.List.{list_any}
 use Rattle.fnc_journal.specs.declared.limits.TheConstants.{GREATEST_PRIORITY, MOST_RUNS}
 use Rattle.fnc_journal.specs.declared.definition.Base.{Base}

@@ -4,7 +4,8 @@ ghost use Rattle.std.specs.Prelude.{◌≡◌, IfOk, codes};
 ghost use Rattle.fnc_text.specs.Durations.{duration};
 ghost use Rattle.fnc_text.specs.Digits.{number};
 ghost use Rattle.fnc_device.specs.Options.{action_option, value_of};
-ghost use Rattle.fnc_device.specs.Allowances.{timeout_option, retries_option, some_time, timeout_of, some_tries, retries_of, word, allowed, allowances};
+ghost use Rattle.fnc_device.specs.Allowances.{timeout_option, retries_option, some_time, timeout_of, some_tries};
+ghost use Rattle.fnc_device.specs.Allowances.{retries_of, word, allowed, allowances};
 ghost use Rattle.fnc_device.specs.Steps.{Gives};
 
 use crate::fault::DefineFault;

@@ -2,7 +2,8 @@
 
 ghost use Rattle.std.specs.Prelude.{◌≡◌, [], IfOk};
 ghost use Rattle.std.specs.Option.{option_copied};
-ghost use Rattle.fnc_device.specs.Options.{is_action_option, is_argument, suits, is_option, few, well_formed, distinct_after, right_options, value_of, own_options};
+ghost use Rattle.fnc_device.specs.Options.{is_action_option, is_argument, suits, is_option, few, well_formed};
+ghost use Rattle.fnc_device.specs.Options.{distinct_after, right_options, value_of, own_options};
 ghost use Rattle.fnc_device.specs.Steps.{Gives};
 
 use crate::fault::DefineFault;

@@ -5,7 +5,8 @@ ghost use Rattle.std.specs.List.{list_any};
 ghost use Rattle.fnc_text.specs.Digits.{number};
 ghost use Rattle.fnc_hosts.specs.Hosts.{is_colon, host_map};
 ghost use Rattle.fnc_device.specs.Options.{value_of};
-ghost use Rattle.fnc_device.specs.Schedules.{schedule, base_of, base_of_text, bad_base, delay, delays, limit_of, counted_limit, priority_of, priority_of_text};
+ghost use Rattle.fnc_device.specs.Schedules.{schedule, base_of, base_of_text, bad_base, delay, delays, limit_of};
+ghost use Rattle.fnc_device.specs.Schedules.{counted_limit, priority_of, priority_of_text};
 ghost use Rattle.fnc_device.specs.Nodes.{or_fault};
 ghost use Rattle.fnc_device.specs.Steps.{Gives};
 

@@ -1,5 +1,22 @@
 -- Entries of a text, which separators keep apart.
-use Rattle.std.specs.Prelude.{◌≡◌, ℕ, List, [], ◌∷◌, ◌+◌, ◌<◌, Bool, ◌==◌, ◌||◌, nat_lt, length, filter, Option, Some, None}
+use Rattle.std.specs.Prelude.{
+  ◌≡◌,
+  ℕ,
+  List,
+  [],
+  ◌∷◌,
+  ◌+◌,
+  ◌<◌,
+  Bool,
+  ◌==◌,
+  ◌||◌,
+  nat_lt,
+  length,
+  filter,
+  Option,
+  Some,
+  None,
+}
 use Rattle.std.specs.List.{slice_split}
 use Rattle.fnc_hosts.specs.declared.entry.Form.{Form}
 use Rattle.fnc_hosts.specs.declared.entry.Cut.{Cut}

@@ -5,7 +5,8 @@ use Rattle.fnc_outside.specs.Events.{Happening}
 use Rattle.fnc_outside.specs.Lines.{lines_of}
 use Rattle.fnc_outside.specs.declared.memory_source.Taken.{Taken}
 
--- the events given and left, oldest first; the number of the next poll, and the numbers of those that fail; the count of faults
+-- the events given and left, oldest first; the number of the next poll, and the numbers of those that fail; the count
+-- of faults
 pub record Remembered : Type 0 where
   pub given : List Happening
   pub left : List Happening

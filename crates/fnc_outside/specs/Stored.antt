@@ -55,7 +55,9 @@ write_fails sink piece = is_some (kept_of sink.torn sink.writes) || nat_lt sink.
 -- the sink after a write of the piece, which leaves nothing where its bytes have no room
 abbrev pub after_write : Stored → List ℕ → Stored
 after_write sink piece = record sink {
-  held = (let part = part_of (kept_of sink.torn sink.writes) piece in if has_room sink part then sink.held ++ part else sink.held);
+  held = (
+      let part = part_of (kept_of sink.torn sink.writes) piece in
+      if has_room sink part then sink.held ++ part else sink.held);
   writes = one_more sink.writes;
   faults = if write_fails sink piece then one_more sink.faults else sink.faults;
 }

@@ -162,7 +162,8 @@ impl MemorySink {
     /// Appends these bytes where they have room.
     fn append(&mut self, bytes: &[u8]) -> bool
         ensures room { result ≡ has_room self.old bytes.now }
-        ensures held { self.new ≡ record self.old { held = (if result then self.old.held ++ bytes.now else self.old.held) } }
+        ensures held { self.new
+            ≡ record self.old { held = (if result then self.old.held ++ bytes.now else self.old.held) } }
     {
         if bytes.len() > self.size as usize - self.bytes.len() {
             return false;

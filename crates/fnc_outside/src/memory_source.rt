@@ -1,6 +1,7 @@
 // A source that gives the lines of a text in memory, for tests.
 
-ghost use Rattle.std.specs.Prelude.{◌≡◌, ◌≢◌, ◌≤◌, ◌↔◌, ◌==◌, ◌++◌, [], Some, IfOk, IsTrue, length, count_by, if◌then◌else◌};
+ghost use Rattle.std.specs.Prelude.{◌≡◌, ◌≢◌, ◌≤◌, ◌↔◌, ◌==◌, ◌++◌, [], Some, IfOk, IsTrue, length, count_by};
+ghost use Rattle.std.specs.Prelude.{if◌then◌else◌};
 ghost use Rattle.fnc_outside.specs.Faults.{NeverFalls, one_more};
 ghost use Rattle.fnc_outside.specs.Lines as Lines;
 ghost use Rattle.fnc_outside.specs.Polls.{IsPolled, given_by, Leaves, HasCause, Takes};

@@ -1,3 +1,5 @@
+-- Proved here: the first of the queue is the least that is ready on a lane with room, and the calls change what waits
+-- and what is alive by one.
 pub mod ItemLemmas
 pub mod LaneLemmas
 pub mod FirstLemmas

@@ -1,6 +1,24 @@
 -- Which try starts next: of those that are ready on a lane with room, the one that has been ready for the
 -- longest, and of equals the one of the least operation.
-use Rattle.std.specs.Prelude.{ℕ, List, [], ◌∷◌, Bool, true, false, ◌≡◌, ◌==◌, ◌&&◌, ◌||◌, if◌then◌else◌, nat_lt, nat_le, Option, Some, None}
+use Rattle.std.specs.Prelude.{
+  ℕ,
+  List,
+  [],
+  ◌∷◌,
+  Bool,
+  true,
+  false,
+  ◌≡◌,
+  ◌==◌,
+  ◌&&◌,
+  ◌||◌,
+  if◌then◌else◌,
+  nat_lt,
+  nat_le,
+  Option,
+  Some,
+  None,
+}
 use Rattle.std.specs.List.{list_any, AllByRecursion, Contains}
 use Rattle.fnc_journal.specs.declared.entry.Reg.{Reg}
 use Rattle.fnc_journal.specs.Startable.{has_room}

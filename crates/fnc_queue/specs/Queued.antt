@@ -25,7 +25,8 @@ added item q = record q { waiting = with_item item q.waiting; spare = q.spare - 
 
 -- the try of an operation waits no more
 abbrev pub withdrawn : ℕ → Queued → Queued
-withdrawn req q = if is_waiting req q.waiting then record q { waiting = without_item req q.waiting; spare = q.spare + 1 } else q
+withdrawn req q =
+    if is_waiting req q.waiting then record q { waiting = without_item req q.waiting; spare = q.spare + 1 } else q
 
 -- a try that waited was started, and its run is alive
 abbrev pub started : Option Waiting → Queued → Queued

@@ -62,7 +62,8 @@ fn line_feed(bytes: &[u8]) -> Option<usize>
 /// Puts a line into the buffer, unless it is too long. Its front was given up where it is cut.
 fn give(text: &[u8], is_cut: bool, line: &mut LineBuf) -> Polled
     requires empty { line.old.bytes ≡ [] }
-    ensures answer { result ≡ (if is_cut || nat_lt line.old.size (length text.now) then Polled.TooLong else Polled.Line) }
+    ensures answer { result
+        ≡ (if is_cut || nat_lt line.old.size (length text.now) then Polled.TooLong else Polled.Line) }
     ensures line { result ≡ Polled.Line → line.new.bytes ≡ text.now }
     ensures size { line.new.size ≡ line.old.size }
     ensures buffer { IsPolled result line.new }

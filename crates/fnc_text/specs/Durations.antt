@@ -1,5 +1,24 @@
 -- Durations: digits and a unit, in milliseconds.
-use Rattle.std.specs.Prelude.{ℕ, List, [], ◌∷◌, ◌*◌, ◌||◌, if◌then◌else◌, nat_le, Option, Some, None, Result, Ok, Err, bytes_eq, codes, take_while, drop}
+use Rattle.std.specs.Prelude.{
+  ℕ,
+  List,
+  [],
+  ◌∷◌,
+  ◌*◌,
+  ◌||◌,
+  if◌then◌else◌,
+  nat_le,
+  Option,
+  Some,
+  None,
+  Result,
+  Ok,
+  Err,
+  bytes_eq,
+  codes,
+  take_while,
+  drop,
+}
 use Rattle.std.specs.List.{prefix_len}
 use Rattle.std.specs.Char.{is_ascii_digit}
 use Rattle.fnc_journal.specs.declared.limits.TheConstants.{DAY}

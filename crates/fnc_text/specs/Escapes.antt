@@ -1,5 +1,25 @@
 -- Escapes: `%` and two hexadecimal digits, of either case, stand for a byte. Any other byte stands for itself.
-use Rattle.std.specs.Prelude.{◌≡◌, ℕ, List, [], ◌∷◌, ◌+◌, ◌*◌, Bool, false, not, ◌&&◌, ◌==◌, if◌then◌else◌, Option, Some, None, Result, Ok, Err}
+use Rattle.std.specs.Prelude.{
+  ◌≡◌,
+  ℕ,
+  List,
+  [],
+  ◌∷◌,
+  ◌+◌,
+  ◌*◌,
+  Bool,
+  false,
+  not,
+  ◌&&◌,
+  ◌==◌,
+  if◌then◌else◌,
+  Option,
+  Some,
+  None,
+  Result,
+  Ok,
+  Err,
+}
 use Rattle.std.specs.Char.{is_ascii_hexdigit, digit_value}
 use Rattle.std.specs.Str.{is_utf8}
 use Rattle.fnc_text.specs.declared.escape.EscapeFault.{EscapeFault}

@@ -1,5 +1,25 @@
 -- Words, separated by spaces.
-use Rattle.std.specs.Prelude.{◌≡◌, ℕ, List, [], ◌∷◌, ◌+◌, ◌<◌, ◌≤◌, Bool, ◌==◌, if◌then◌else◌, nat_lt, length, drop, filter, slice_range, Option, Some, None}
+use Rattle.std.specs.Prelude.{
+  ◌≡◌,
+  ℕ,
+  List,
+  [],
+  ◌∷◌,
+  ◌+◌,
+  ◌<◌,
+  ◌≤◌,
+  Bool,
+  ◌==◌,
+  if◌then◌else◌,
+  nat_lt,
+  length,
+  drop,
+  filter,
+  slice_range,
+  Option,
+  Some,
+  None,
+}
 use Rattle.std.specs.List.{prefix_len, position_or_len, slice_split}
 use Rattle.fnc_text.specs.declared.word.Span.{Span}
 

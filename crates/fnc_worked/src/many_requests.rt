@@ -9,7 +9,8 @@ use std::test::Fail;
 
 /// The device, which may try `off` 16 times, so that each request takes much room.
 const DEVICE: &str =
-    "0 device 0 d1 fence_model actions=on,off,reboot check=none hosts= map= argument=port limit=1 priority=0 delay=0 max=0 keep=0 on=on/60000/2 off=off/60000/16 reboot=reboot/60000/2 list=list/60000/2 status=status/60000/2";
+    "0 device 0 d1 fence_model actions=on,off,reboot check=none hosts= map= argument=port limit=1 priority=0 delay=0 \
+    max=0 keep=0 on=on/60000/2 off=off/60000/16 reboot=reboot/60000/2 list=list/60000/2 status=status/60000/2";
 
 /// Adds the entry that a line spells.
 fn add(alloc: Global, journal: &mut Journal, line: &str) -> Result<(), Fail> {

@@ -8,13 +8,16 @@ use std::test::Fail;
 /// The words of a device without options, those of one whose `off` may take 10 seconds, and those of one
 /// that tells which nodes it serves.
 const PLAIN: &str =
-    " fence_model actions=on,off,reboot check=none hosts= map= argument=port limit=1 priority=0 delay=0 max=0 keep=0 on=on/60000/2 off=off/60000/2 reboot=reboot/60000/2 list=list/60000/2 status=status/60000/2";
+    " fence_model actions=on,off,reboot check=none hosts= map= argument=port limit=1 priority=0 delay=0 max=0 keep=0 \
+    on=on/60000/2 off=off/60000/2 reboot=reboot/60000/2 list=list/60000/2 status=status/60000/2";
 
 const SHORT: &str =
-    " fence_model actions=on,off,reboot check=none hosts= map= argument=port limit=1 priority=0 delay=0 max=0 keep=0 on=on/60000/2 off=off/10000/2 reboot=reboot/60000/2 list=list/60000/2 status=status/60000/2";
+    " fence_model actions=on,off,reboot check=none hosts= map= argument=port limit=1 priority=0 delay=0 max=0 keep=0 \
+    on=on/60000/2 off=off/10000/2 reboot=reboot/60000/2 list=list/60000/2 status=status/60000/2";
 
 const LISTING: &str =
-    " fence_v actions=on,off,reboot,list check=dynamic-list hosts= map= argument=port limit=1 priority=0 delay=0 max=0 keep=0 on=on/60000/2 off=off/60000/2 reboot=reboot/60000/2 list=list/60000/2 status=status/60000/2";
+    " fence_v actions=on,off,reboot,list check=dynamic-list hosts= map= argument=port limit=1 priority=0 delay=0 \
+    max=0 keep=0 on=on/60000/2 off=off/60000/2 reboot=reboot/60000/2 list=list/60000/2 status=status/60000/2";
 
 /// The bytes of a line: a mark at its end stands for the words of a device.
 fn spelled(alloc: Global, line: &str) -> Result<Vec<u8>, NoMemory> {
