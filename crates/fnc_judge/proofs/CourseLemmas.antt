@@ -1,6 +1,26 @@
 -- What is gathered of an operation, as the definitions say it.
 use Rattle.std.proofs.Common.{
-  ℕ, List, [], ◌∷◌, Bool, true, false, ◌≡◌, ◌&&◌, ◌+◌, not, max, leb, cond, refl, sym, ap, ◌∙◌, arith, Option, Some,
+  ℕ,
+  List,
+  [],
+  ◌∷◌,
+  Bool,
+  true,
+  false,
+  ◌≡◌,
+  ◌&&◌,
+  ◌+◌,
+  not,
+  max,
+  leb,
+  cond,
+  refl,
+  sym,
+  ap,
+  ◌∙◌,
+  arith,
+  Option,
+  Some,
   None,
 }
 use Rattle.std.specs.Prelude.{if◌then◌else◌, find, filter, filter_map, is_none, option_map, option_and_then}
@@ -12,7 +32,16 @@ use Rattle.fnc_journal.specs.Missing.{has_any}
 use Rattle.fnc_journal.specs.Slots.{Task, QueriedDevice, Rank, Operation, queries, rank, ranked_from, slots_of}
 use Rattle.fnc_journal.specs.Acts.{Act, concluded}
 use Rattle.fnc_journal.specs.Standing.{
-  capable, capable_query, queries_concluded, ranks, first_kept, standing, standing_in, since, greatest_concluded, lost,
+  capable,
+  capable_query,
+  queries_concluded,
+  ranks,
+  first_kept,
+  standing,
+  standing_in,
+  since,
+  greatest_concluded,
+  lost,
 }
 use Rattle.fnc_journal.specs.Due.{passed_among, answer_passed, failure_due, time_due, due_by_acts, is_done}
 use Rattle.fnc_judge.specs.declared.course.Due.{Due}
@@ -20,12 +49,33 @@ use Rattle.fnc_judge.specs.Tours.{Gathered, gathered_all, gathered_any, nothing}
 use Rattle.fnc_judge.specs.Surveys.{Survey, Kept, none, surveyed, surveyed_all}
 use Rattle.fnc_search.specs.Pursued.{Pursued, operation, candidates_of}
 use Rattle.fnc_judge.specs.Courses.{
-  Course, start, coursed, coursed_all, tried, course_by, course_of, queries_of, survey_of, answer_of, standing_by,
-  time_by, failure_by, passed_by, due_by, since_by,
+  Course,
+  start,
+  coursed,
+  coursed_all,
+  tried,
+  course_by,
+  course_of,
+  queries_of,
+  survey_of,
+  answer_of,
+  standing_by,
+  time_by,
+  failure_by,
+  passed_by,
+  due_by,
+  since_by,
 }
 use Rattle.fnc_judge.proofs.Gatherings.{gathered-unconcluded, gathered-greatest, all-find}
 use Rattle.fnc_judge.proofs.SurveyLemmas.{
-  kept_of, survey-kept, survey-any, survey-greatest, standing-same, done-same, passed-same, lost-all,
+  kept_of,
+  survey-kept,
+  survey-any,
+  survey-greatest,
+  standing-same,
+  done-same,
+  passed-same,
+  lost-all,
 }
 
 queries-cons : (o : Operation) (m : ℕ) (acts : List Act) (g : Gathered) (t : Option Task) (ts : List Task) →

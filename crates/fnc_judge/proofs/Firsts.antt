@@ -1,6 +1,26 @@
 -- The first fault of a journal, found entry by entry.
 use Rattle.std.proofs.Common.{
-  ℕ, [], ◌∷◌, Bool, true, false, ◌≡◌, ◌<◌, ◌↔◌, cond, refl, sym, ap, ◌∙◌, Option, Some, None, length, ltb, ◌+◌, arith,
+  ℕ,
+  [],
+  ◌∷◌,
+  Bool,
+  true,
+  false,
+  ◌≡◌,
+  ◌<◌,
+  ◌↔◌,
+  cond,
+  refl,
+  sym,
+  ap,
+  ◌∙◌,
+  Option,
+  Some,
+  None,
+  length,
+  ltb,
+  ◌+◌,
+  arith,
 }
 use Rattle.fnc_journal.specs.declared.outcome.Rule.{Rule}
 use Rattle.fnc_journal.specs.Found.{entry_at}

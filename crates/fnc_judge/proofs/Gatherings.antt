@@ -1,6 +1,26 @@
 -- What is gathered of slots, as the definitions say it.
 use Rattle.std.proofs.Common.{
-  ℕ, List, [], ◌∷◌, ◌++◌, Bool, true, false, ◌≡◌, ◌||◌, ◌&&◌, not, max, cond, refl, ap, ◌∙◌, arith, Option, Some, None,
+  ℕ,
+  List,
+  [],
+  ◌∷◌,
+  ◌++◌,
+  Bool,
+  true,
+  false,
+  ◌≡◌,
+  ◌||◌,
+  ◌&&◌,
+  not,
+  max,
+  cond,
+  refl,
+  ap,
+  ◌∙◌,
+  arith,
+  Option,
+  Some,
+  None,
 }
 use Rattle.std.specs.Prelude.{find, is_none}
 use Rattle.std.specs.List.{list_any, list_all}

@@ -1,10 +1,45 @@
 -- The open operations, one after another.
 use Rattle.std.proofs.Common.{
-  ℕ, List, [], ◌∷◌, ◌++◌, Bool, true, false, ◌≡◌, ◌≤◌, ◌+◌, ◌==◌, ◌&&◌, ◌||◌, not, ltb, ltb-true, ltb-false, lt-ltb,
-  cond, refl, sym, ap, ◌∙◌, arith, Option, Some, None, length,
+  ℕ,
+  List,
+  [],
+  ◌∷◌,
+  ◌++◌,
+  Bool,
+  true,
+  false,
+  ◌≡◌,
+  ◌≤◌,
+  ◌+◌,
+  ◌==◌,
+  ◌&&◌,
+  ◌||◌,
+  not,
+  ltb,
+  ltb-true,
+  ltb-false,
+  lt-ltb,
+  cond,
+  refl,
+  sym,
+  ap,
+  ◌∙◌,
+  arith,
+  Option,
+  Some,
+  None,
+  length,
 }
 use Rattle.std.specs.Prelude.{
-  if◌then◌else◌, find, filter, filter_map, map, is_none, is_some, option_map, option_and_then,
+  if◌then◌else◌,
+  find,
+  filter,
+  filter_map,
+  map,
+  is_none,
+  is_some,
+  option_map,
+  option_and_then,
 }
 use Rattle.std.specs.List.{list_any, cons_option}
 use Rattle.fnc_journal.specs.declared.event.Event.{Event}
@@ -14,13 +49,29 @@ use Rattle.fnc_journal.specs.Found.{Asked, asked, is_answered, has_exit}
 use Rattle.fnc_journal.specs.Registered.{lane}
 use Rattle.fnc_journal.specs.Slots as Slots
 use Rattle.fnc_journal.specs.Operations.{
-  operation, led, requests, request_here, unanswered, is_open, operation_here, operations, open_operations,
+  operation,
+  led,
+  requests,
+  request_here,
+  unanswered,
+  is_open,
+  operation_here,
+  operations,
+  open_operations,
 }
 use Rattle.fnc_journal.specs.Startable.{Begun, Startable, begun_runs, startable, sooner, soonest, first_among}
 use Rattle.fnc_search.specs.Pursued.{Pursued}
 use Rattle.fnc_search.specs.Pursued as Pursued
 use Rattle.fnc_judge.specs.Opened.{
-  waiting, waiting_here, opened, opens, found_after, counts, alive_in, counts_here, startable_any,
+  waiting,
+  waiting_here,
+  opened,
+  opens,
+  found_after,
+  counts,
+  alive_in,
+  counts_here,
+  startable_any,
 }
 use Rattle.fnc_search.specs.Pursued.{pursued_by, pursued_of}
 

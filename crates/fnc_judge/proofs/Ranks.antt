@@ -9,7 +9,15 @@ use Rattle.fnc_journal.specs.Registered.{current}
 use Rattle.fnc_journal.specs.Levels.{Level}
 use Rattle.fnc_journal.specs.Plan.{reg_of, plan_level}
 use Rattle.fnc_journal.specs.Slots.{
-  Operation, place_of, rank_of, rank, is_split, acts_from, ons_from, act_task, on_task,
+  Operation,
+  place_of,
+  rank_of,
+  rank,
+  is_split,
+  acts_from,
+  ons_from,
+  act_task,
+  on_task,
 }
 use Rattle.fnc_judge.specs.Places.{is_unfit, firsts_over, ons_over}
 use Rattle.fnc_search.specs.Placed.{placed}

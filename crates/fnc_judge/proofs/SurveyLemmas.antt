@@ -1,6 +1,26 @@
 -- What is gathered of levels, as the definitions say it.
 use Rattle.std.proofs.Common.{
-  ℕ, List, [], ◌∷◌, ◌++◌, Bool, true, false, ◌≡◌, ◌||◌, ◌&&◌, not, max, leb, cond, refl, ap, ◌∙◌, arith, Option, Some,
+  ℕ,
+  List,
+  [],
+  ◌∷◌,
+  ◌++◌,
+  Bool,
+  true,
+  false,
+  ◌≡◌,
+  ◌||◌,
+  ◌&&◌,
+  not,
+  max,
+  leb,
+  cond,
+  refl,
+  ap,
+  ◌∙◌,
+  arith,
+  Option,
+  Some,
   None,
 }
 use Rattle.std.specs.Prelude.{if◌then◌else◌, is_none, option_map, option_and_then}
@@ -14,7 +34,11 @@ use Rattle.fnc_journal.specs.Due.{is_done, passed_among}
 use Rattle.fnc_judge.specs.Tours.{gathered_all, nothing}
 use Rattle.fnc_judge.specs.Surveys.{Survey, Kept, kept_by, surveyed, surveyed_all}
 use Rattle.fnc_judge.proofs.Gatherings.{
-  gathered-unconfirmed, gathered-unconcluded, gathered-lost, gathered-greatest, all-find,
+  gathered-unconfirmed,
+  gathered-unconcluded,
+  gathered-lost,
+  gathered-greatest,
+  all-find,
 }
 use Rattle.fnc_journal.proofs.Lawfulness.{and-left}
 

@@ -1,6 +1,25 @@
 -- Parts of the rules of an entry, as the definitions say them.
 use Rattle.std.proofs.Common.{
-  ℕ, List, [], ◌∷◌, Bool, true, false, ◌≡◌, ◌≤◌, ◌+◌, ◌==◌, ◌&&◌, ◌||◌, cond, refl, arith, eq-eqb, Option, Some, None,
+  ℕ,
+  List,
+  [],
+  ◌∷◌,
+  Bool,
+  true,
+  false,
+  ◌≡◌,
+  ◌≤◌,
+  ◌+◌,
+  ◌==◌,
+  ◌&&◌,
+  ◌||◌,
+  cond,
+  refl,
+  arith,
+  eq-eqb,
+  Option,
+  Some,
+  None,
   length,
 }
 use Rattle.std.specs.Prelude.{find, is_some, option_map}

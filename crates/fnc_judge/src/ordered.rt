@@ -9,7 +9,7 @@ ghost use Rattle.fnc_journal.specs.Operations as Operations;
 ghost use Rattle.fnc_judge.specs.Testing.{moment_by};
 
 use crate::numbers::counted;
-use fnc_journal::{Entry, Event, Journal, Kind, Request, Scope, Start};
+use fnc_journal::{Entry, Event, Journal, Request, Scope, Start};
 use fnc_search::{
     Past, Target, is_current, level_of, oldest, operation_of, pattern_at, registration, request,
     stands, start_of,
@@ -41,15 +41,6 @@ pub(crate) fn last_moment(past: &Past<'_>) -> u64
     ensures { result ≡ Lawful.last_moment past.now }
 {
     moment_of(last(past))
-}
-
-fn may_ask(kind: Kind) -> bool
-    ensures { result ≡ Lawful.may_ask kind }
-{
-    match kind {
-        Kind::On | Kind::Off | Kind::Reboot => true,
-        _ => false,
-    }
 }
 
 fn has_level(past: &Past<'_>, target: &Target<'_>, index: u32) -> bool
@@ -88,7 +79,7 @@ fn is_request_in_order(request: &Request, past: &Past<'_>) -> bool
     ensures { result ≡ Lawful.in_order (Event.Ask request.now) past.now }
 {
     request.req.0 == counted(past).asks
-        && may_ask(request.kind)
+        && request.kind.may_be_asked()
         && 1 <= request.total
         && request.total <= 86_400_000
         && is_in_place(past, request.scope, request.target.as_str())

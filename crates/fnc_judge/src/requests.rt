@@ -3,11 +3,9 @@
 ghost use Rattle.std.specs.Prelude.{◌≡◌, ◌||◌, ◌<◌, ◌-◌, if◌then◌else◌, false, find, is_none, is_some, option_map};
 ghost use Rattle.std.specs.Prelude.{unwrap_or};
 ghost use Rattle.fnc_journal.specs.Acts.{acts};
-ghost use Rattle.fnc_journal.specs.Device as Devices;
 ghost use Rattle.fnc_journal.specs.Due as Dues;
 ghost use Rattle.fnc_journal.specs.Missing.{first_of};
 ghost use Rattle.fnc_journal.specs.Operations as Operations;
-ghost use Rattle.fnc_journal.specs.Same.{same_kind};
 ghost use Rattle.fnc_judge.specs.Courses.{answer_of};
 ghost use Rattle.fnc_judge.specs.Opened.{found_after, opened, opens, waiting, waiting_here};
 ghost use Rattle.fnc_search.specs.Pursued.{pursued_of};
@@ -50,20 +48,11 @@ fn is_confirmed(operation: &Operation<'_>, past: &Past<'_>) -> bool
     found
 }
 
-fn cuts_power(kind: Kind) -> bool
-    ensures { result ≡ Devices.cuts_power kind }
-{
-    match kind {
-        Kind::Off | Kind::Reboot => true,
-        _ => false,
-    }
-}
-
 /// The answer that is due to an operation.
 pub(crate) fn due_to(past: &Past<'_>, moment: u64, operation: &Operation<'_>) -> Option<Due>
     ensures { option_map answer_of result ≡ Operations.due_to past.now moment (Pursued.operation operation.now) }
 {
-    if is_confirmed(operation, past) && cuts_power(operation.kind()) {
+    if is_confirmed(operation, past) && operation.kind().cuts_power() {
         Some(Due::Confirmed)
     } else {
         due_by_acts(operation, moment, past)
@@ -214,7 +203,7 @@ fn is_joinable(
 ) -> bool
     ensures { result ≡ Operations.is_joinable past.now moment kind target.now (Pursued.operation operation.now) }
 {
-    same_kind_as(kind, operation.kind())
+    kind.is(operation.kind())
         && target == operation.target()
         && !is_on(&standing(operation, moment, past))
 }
@@ -267,18 +256,4 @@ pub(crate) fn joined<'a>(
     ensures { option_map Pursued.operation result ≡ Operations.joined past.now moment kind target.now }
 {
     find_joinable(past, moment, kind, target)
-}
-
-/// Whether two kinds are the same.
-pub(crate) fn same_kind_as(a: Kind, b: Kind) -> bool
-    ensures { result ≡ same_kind a b }
-{
-    match (a, b) {
-        (Kind::On, Kind::On)
-        | (Kind::Off, Kind::Off)
-        | (Kind::Reboot, Kind::Reboot)
-        | (Kind::List, Kind::List)
-        | (Kind::Status, Kind::Status) => true,
-        _ => false,
-    }
 }

@@ -14,7 +14,7 @@ ghost use Rattle.fnc_judge.specs.Testing.{is_start_with, lead_for, pending_after
 
 use crate::course::Due;
 use crate::ordered::{last, last_moment, order};
-use crate::requests::{due_to, first_due, first_waiting, is_open, joined, same_kind_as, settled};
+use crate::requests::{due_to, first_due, first_waiting, is_open, joined, settled};
 use crate::startable::{Startable, first};
 use fnc_journal::{Answer, Entry, Event, Reply, Request, Rule, Slot, Start};
 use fnc_search::{Operation, Past, has_exit, is_answered, lead, start_of};
@@ -74,7 +74,7 @@ impl<'a> Startable<'a> {
         start.req.0 == self.operation.req()
             && self.task.is_of(start.slot)
             && start.reg.0 == self.task.reg()
-            && same_kind_as(start.kind, self.task.kind())
+            && start.kind.is(self.task.kind())
     }
 }
 
@@ -152,19 +152,6 @@ fn last_pending(past: &Past<'_>) -> Option<Pending>
     pending_of_last(past, last(past))
 }
 
-fn same_answer(a: Answer, b: Answer) -> bool
-    ensures { result ≡ Same.same_answer a b }
-{
-    match (a, b) {
-        (Answer::Passed(a), Answer::Passed(b)) => a == b,
-        (Answer::Levels, Answer::Levels)
-        | (Answer::Time, Answer::Time)
-        | (Answer::NoDevice, Answer::NoDevice)
-        | (Answer::Confirmed, Answer::Confirmed) => true,
-        _ => false,
-    }
-}
-
 fn continues(pending: Option<Pending>, entry: &Entry, past: &Past<'_>) -> bool
     ensures { result ≡ Lawful.continues pending entry.now.moment entry.now.event past.now }
 {
@@ -172,7 +159,7 @@ fn continues(pending: Option<Pending>, entry: &Entry, past: &Past<'_>) -> bool
         (None, _) => true,
         (Some(pending), Event::Reply(reply)) => {
             lead(past, reply.req.0) == Some(pending.operation)
-                && same_answer(reply.answer, pending.answer)
+                && reply.answer.is(pending.answer)
                 && entry.moment == pending.moment
         }
         (Some(_), _) => false,

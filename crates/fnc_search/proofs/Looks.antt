@@ -1,7 +1,32 @@
 -- What is seen of a slot, one act after another.
 use Rattle.std.proofs.Common.{
-  ℕ, List, [], ◌∷◌, Bool, true, false, ◌≡◌, ◌≤◌, ◌+◌, ◌==◌, ◌&&◌, ◌||◌, ◌<◌, ◌∙◌, not, cond, refl, sym, ap, Option,
-  Some, None, arith, length, ltb, le-ltb,
+  ℕ,
+  List,
+  [],
+  ◌∷◌,
+  Bool,
+  true,
+  false,
+  ◌≡◌,
+  ◌≤◌,
+  ◌+◌,
+  ◌==◌,
+  ◌&&◌,
+  ◌||◌,
+  ◌<◌,
+  ◌∙◌,
+  not,
+  cond,
+  refl,
+  sym,
+  ap,
+  Option,
+  Some,
+  None,
+  arith,
+  length,
+  ltb,
+  le-ltb,
 }
 use Rattle.std.specs.Prelude.{option_map, is_some}
 use Rattle.fnc_journal.specs.declared.event.Event.{Event}
@@ -14,11 +39,34 @@ use Rattle.fnc_journal.specs.Same.{same_slot}
 use Rattle.fnc_journal.specs.Exits.{is_success}
 use Rattle.fnc_journal.specs.Slots.{Task}
 use Rattle.fnc_journal.specs.Acts.{
-  Act, acts, act_here, cons_act, slot_of_run, failed, fails_here, begun_at, success_at, has_succeeded, succeeds_here,
-  moment_of, is_query, answered, confirmed, concluded, spent,
+  Act,
+  acts,
+  act_here,
+  cons_act,
+  slot_of_run,
+  failed,
+  fails_here,
+  begun_at,
+  success_at,
+  has_succeeded,
+  succeeds_here,
+  moment_of,
+  is_query,
+  answered,
+  confirmed,
+  concluded,
+  spent,
 }
 use Rattle.fnc_search.specs.Seen.{
-  answered_by, confirmed_by, concluded_by, begun_slot, seen_of, seen_with, is_in_time_by, first_start_of, starts_for,
+  answered_by,
+  confirmed_by,
+  concluded_by,
+  begun_slot,
+  seen_of,
+  seen_with,
+  is_in_time_by,
+  first_start_of,
+  starts_for,
 }
 
 pub slot-more : (o n m : ℕ) (event : Event) (h : History) →

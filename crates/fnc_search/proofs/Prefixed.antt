@@ -1,7 +1,27 @@
 -- A prefix is no longer than its number says.
 use Rattle.std.proofs.Common.{
-  ℕ, [], ◌∷◌, ◌≡◌, ◌≤◌, ◌<◌, ◌==◌, ◌∙◌, Bool, true, false, cond, refl, sym, arith, length, ltb, ltb-true, ltb-false,
-  ne_eqb, le-ltb, None,
+  ℕ,
+  [],
+  ◌∷◌,
+  ◌≡◌,
+  ◌≤◌,
+  ◌<◌,
+  ◌==◌,
+  ◌∙◌,
+  Bool,
+  true,
+  false,
+  cond,
+  refl,
+  sym,
+  arith,
+  length,
+  ltb,
+  ltb-true,
+  ltb-false,
+  ne_eqb,
+  le-ltb,
+  None,
 }
 use Rattle.fnc_journal.specs.Found.{entry_at}
 use Rattle.fnc_journal.specs.History.{History}

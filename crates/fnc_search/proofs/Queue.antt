@@ -1,6 +1,22 @@
 -- The candidates of an operation, one after another.
 use Rattle.std.proofs.Common.{
-  ℕ, List, [], ◌∷◌, ◌≡◌, ◌≤◌, ◌+◌, refl, sym, ap, ◌∙◌, Option, Some, None, arith, length, drop,
+  ℕ,
+  List,
+  [],
+  ◌∷◌,
+  ◌≡◌,
+  ◌≤◌,
+  ◌+◌,
+  refl,
+  sym,
+  ap,
+  ◌∙◌,
+  Option,
+  Some,
+  None,
+  arith,
+  length,
+  drop,
 }
 use Rattle.std.specs.Prelude.{map}
 use Rattle.fnc_journal.specs.Missing.{first_of}

@@ -1,6 +1,24 @@
 -- Searches from the oldest entry on. One that has found something can stop, since no later entry changes what it found.
 use Rattle.std.proofs.Common.{
-  ℕ, [], ◌∷◌, Bool, true, false, ◌≡◌, ◌<◌, ◌+◌, ◌||◌, ◌∙◌, cond, refl, ap, Option, Some, None, length, ltb,
+  ℕ,
+  [],
+  ◌∷◌,
+  Bool,
+  true,
+  false,
+  ◌≡◌,
+  ◌<◌,
+  ◌+◌,
+  ◌||◌,
+  ◌∙◌,
+  cond,
+  refl,
+  ap,
+  Option,
+  Some,
+  None,
+  length,
+  ltb,
 }
 use Rattle.fnc_journal.specs.declared.entry.Entry.{Entry}
 use Rattle.fnc_journal.specs.Found.{entry_at}

@@ -1,6 +1,24 @@
 -- A plan that is written down is the one that is found, where each of its pieces is.
 use Rattle.std.proofs.Common.{
-  List, [], ◌∷◌, Bool, true, false, ◌≡◌, ◌==◌, refl, sym, ap, ◌∙◌, Option, Some, None, length, map, arith, eqb-true,
+  List,
+  [],
+  ◌∷◌,
+  Bool,
+  true,
+  false,
+  ◌≡◌,
+  ◌==◌,
+  refl,
+  sym,
+  ap,
+  ◌∙◌,
+  Option,
+  Some,
+  None,
+  length,
+  map,
+  arith,
+  eqb-true,
 }
 use Rattle.std.specs.Bool.{OnTrue}
 use Rattle.fnc_journal.specs.declared.plan.PlanLevel.{PlanLevel}

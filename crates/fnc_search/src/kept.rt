@@ -4,11 +4,9 @@ ghost use Rattle.std.specs.Prelude.{◌≡◌};
 ghost use Rattle.std.specs.Option.{option_or};
 ghost use Rattle.fnc_journal.specs.Found as Found;
 ghost use Rattle.fnc_journal.specs.Kept as Kept;
-ghost use Rattle.fnc_journal.specs.Same.{same_kind};
 
 use crate::found::{request, start_of};
 use crate::past::Past;
-use crate::seen::is_success;
 use crate::task::Device;
 use fnc_journal::{Entry, Event, HostCheck, Kind, Start};
 use std::marker::Model;
@@ -37,19 +35,10 @@ fn is_of_target(past: &Past<'_>, req: u32, target: &str) -> bool
     }
 }
 
-fn is_list(kind: Kind) -> bool
-    ensures { result ≡ same_kind Kind.List kind }
-{
-    match kind {
-        Kind::List => true,
-        _ => false,
-    }
-}
-
 fn is_list_run(past: &Past<'_>, reg: u32, target: &str, start: &Start) -> bool
     ensures { result ≡ Kept.is_list_run reg target.now past.now start.now }
 {
-    reg == start.reg.0 && is_list(start.kind) && is_of_target(past, start.req.0, target)
+    reg == start.reg.0 && Kind::List.is(start.kind) && is_of_target(past, start.req.0, target)
 }
 
 fn listing_here(past: &Past<'_>, reg: u32, target: &str, entry: &Entry) -> Option<Listing>
@@ -57,7 +46,7 @@ fn listing_here(past: &Past<'_>, reg: u32, target: &str, entry: &Entry) -> Optio
 {
     match &entry.event {
         Event::Exit(ended) => {
-            if !is_success(Kind::List, ended.exit) {
+            if !ended.exit.is_success_of(Kind::List) {
                 return None;
             }
             let start = start_of(past, ended.run.0)?;

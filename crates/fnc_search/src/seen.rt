@@ -4,7 +4,6 @@ ghost use Rattle.std.specs.Prelude.{◌≡◌, ◌<◌, ◌&&◌, ◌+◌, ◌-�
 ghost use Rattle.fnc_journal.specs.Acts as Acts;
 ghost use Rattle.fnc_journal.specs.Slots as Slots;
 ghost use Rattle.fnc_journal.specs.Prefix.{prefix};
-ghost use Rattle.fnc_journal.specs.Exits as Exits;
 ghost use Rattle.fnc_journal.specs.Missing as Missing;
 ghost use Rattle.fnc_search.specs.Seen.{answered_by, begun_slot, concluded_at_by, concluded_by, confirmed_by, end_by};
 ghost use Rattle.fnc_search.specs.Seen.{is_in_time_by, seen_begun, seen_ended, seen_exit, seen_failure, seen_in_time};
@@ -12,7 +11,7 @@ ghost use Rattle.fnc_search.specs.Seen.{seen_of, seen_success, seen_with, spent_
 
 use crate::past::Past;
 use crate::task::Task;
-use fnc_journal::{Ended, Entry, Event, Exit, Kind, Slot, Start};
+use fnc_journal::{Ended, Entry, Event, Slot, Start};
 
 /// The last run of a slot.
 #[derive(Clone, Copy)]
@@ -54,17 +53,6 @@ fn slot_of_run(past: &Past<'_>, req: u32, run: u32) -> Option<Slot>
         found = slot_after(found, &past.entry(i).event, req, run);
     }
     found
-}
-
-/// Whether an exit is a success.
-pub fn is_success(kind: Kind, exit: Exit) -> bool
-    ensures { result ≡ Exits.is_success kind exit }
-{
-    match (kind, exit) {
-        (Kind::Status, Exit::Code(code)) => code == 0 || code == 2,
-        (_, Exit::Code(code)) => code == 0,
-        _ => false,
-    }
 }
 
 fn is_in_time(task: &Task<'_>, over: u128, begun: Option<u64>, moment: u64) -> bool
@@ -152,7 +140,7 @@ impl Seen {
         requires { self.failed < 2 ^ 32 - 1 }
         ensures { result ≡ seen_in_time task.now self moment ended.now.exit ended.now.listed }
     {
-        if is_success(task.kind(), ended.exit) {
+        if ended.exit.is_success_of(task.kind()) {
             self.succeeded(moment, ended.listed)
         } else {
             self.failed(task.tries(), moment)

@@ -182,19 +182,10 @@ pub fn device_of<'a>(before: &Past<'a>, reg: u32) -> Option<Device<'a>>
     })
 }
 
-fn is_fit(kind: Kind, definition: &Definition) -> bool
-    ensures { result ≡ Slots.is_fit kind definition.now }
-{
-    match kind {
-        Kind::On => definition.actions.on,
-        _ => true,
-    }
-}
-
 fn fit(kind: Kind, device: Device<'_>) -> Option<Device<'_>>
     ensures { result ≡ Slots.fit kind device.entry }
 {
-    if is_fit(kind, device.definition) {
+    if device.definition.is_fit(kind) {
         Some(device)
     } else {
         None
@@ -210,21 +201,6 @@ pub fn placed_at<'a>(kind: Kind, before: &Past<'a>, name: &str) -> Option<Device
     fit(kind, device)
 }
 
-fn acting(kind: Kind, definition: &Definition) -> Kind
-    ensures { result ≡ Slots.acting kind definition.now }
-{
-    match kind {
-        Kind::Reboot => {
-            if definition.actions.reboot {
-                Kind::Reboot
-            } else {
-                Kind::Off
-            }
-        }
-        _ => kind,
-    }
-}
-
 /// An Off slot in a split reboot, else an Act slot.
 pub fn act_task<'a>(
     split: bool,
@@ -238,7 +214,7 @@ pub fn act_task<'a>(
     if split {
         Task::on_device(Phase::Off, Kind::Off, level, place, device)
     } else {
-        let kind = acting(kind, device.definition);
+        let kind = device.definition.acting(kind);
         Task::on_device(Phase::Act, kind, level, place, device)
     }
 }

@@ -6,7 +6,8 @@ use Rattle.fnc_journal.specs.Levels.{Level, levels}
 use Rattle.fnc_search.specs.Indices.{from, top}
 use Rattle.fnc_search.specs.Pursued.{operation}
 use Rattle.fnc_judge.specs.Surveys.{surveyed_all, surveyed_any, ranks_for, rank_over, none}
-use Rattle.fnc_search.proofs.Rising.{of_index, rising, from-none, from-past, from-more}
+use Rattle.fnc_journal.proofs.RisingLevels.{levels-rising}
+use Rattle.fnc_search.proofs.Rising.{of_index, from-none, from-past, from-more}
 use Rattle.fnc_judge.proofs.Ranks.{survey-next}
 use Rattle.fnc_judge.proofs.survey.survey_target.Goals as goal
 
@@ -30,7 +31,7 @@ loop-index-preserved c =
       before = c.loop-index.invariant.before;
       all =
           c.loop-index.invariant.all
-          ∙ ap (λ (ks : List Level). surveyed_all (operation o) c.args.moment xs c.loop-index.survey (ranks_for o.asked.kind o.asked.before ks)) (from-more c.loop-index.index ls (rising c.args.target.now o.asked.before))
+          ∙ ap (λ (ks : List Level). surveyed_all (operation o) c.args.moment xs c.loop-index.survey (ranks_for o.asked.kind o.asked.before ks)) (from-more c.loop-index.index ls (levels-rising c.args.target.now o.asked.before))
           ∙ survey-next (operation o) c.args.moment xs c.loop-index.survey o.asked.kind o.asked.before (of_index c.loop-index.index ls) rest
           ∙ ap (λ (x : Option Level). surveyed_all (operation o) c.args.moment xs (surveyed_any (operation o) c.args.moment xs c.loop-index.survey (option_map (rank_over o.asked.kind o.asked.before) x)) (ranks_for o.asked.kind o.asked.before rest)) (sym found)
           ∙ ap (λ s. surveyed_all (operation o) c.args.moment xs s (ranks_for o.asked.kind o.asked.before rest)) (sym c.with_any-survey.ensures);

@@ -3,7 +3,8 @@ use Rattle.fnc_journal.specs.Levels.{levels}
 use Rattle.fnc_journal.specs.Plan.{plan_level}
 use Rattle.fnc_search.specs.Indices.{from}
 use Rattle.fnc_search.specs.Written.{level_before}
-use Rattle.fnc_search.proofs.Rising.{of_index, rising, from-none, from-past, from-more}
+use Rattle.fnc_journal.proofs.RisingLevels.{levels-rising}
+use Rattle.fnc_search.proofs.Rising.{of_index, from-none, from-past, from-more}
 use Rattle.fnc_search.proofs.Writing.{written-before, levels-over}
 use Rattle.fnc_search.proofs.planned.are_levels_of.Goals as goal
 
@@ -20,7 +21,7 @@ loop-index-preserved c = λ e.
     ∙ ap (level_before h c.level_of.result) e
     ∙ ap (λ l. level_before h l (map (plan_level h) (from (i + 1) ls))) c.level_of.ensures
     ∙ written-before h (of_index i ls) (from (i + 1) ls)
-    ∙ ap (map (plan_level h)) (sym (from-more i ls (rising c.args.target.now h))))
+    ∙ ap (map (plan_level h)) (sym (from-more i ls (levels-rising c.args.target.now h))))
 
 pub returns : goal.returns
 returns c =
