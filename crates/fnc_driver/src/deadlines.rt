@@ -1,8 +1,8 @@
 // The ends of an action's time and of an operation's total.
 
-use crate::definitions::{DELAYED, PLAIN};
+use crate::definitions::{DELAYED, PLAIN, SHORT};
 use crate::driver::leaves;
-use crate::plans::Written::Candidates;
+use crate::plans::Written::{Candidates, Levels};
 use crate::steps::Step;
 use crate::steps::Step::{Ask, Call, Device, Then};
 use std::test::Fail;
@@ -46,6 +46,29 @@ const BOTH_TOTALS: [Step; 7] = [
     Then("600000 reply 0 failed levels"),
     Then("600000 reply 1 failed time"),
     Call("600000 pass"),
+];
+
+/// One moment finds the times of two runs ended: the next try of each is ready since the end of its own.
+const TWO_ENDS: [Step; 13] = [
+    Device("0 device 0 a", PLAIN),
+    Device("0 device 1 b", SHORT),
+    Device("0 device 2 c", PLAIN),
+    Call("0 level 1 name n1 a"),
+    Call("0 level 2 name n1 c"),
+    Call("0 level 1 name n2 b"),
+    Call("0 level 2 name n2 c"),
+    Ask(
+        "0 ask 0 0 c1 off n1 600000 0 name",
+        Levels(&[(1, &[Some(0)]), (2, &[Some(2)])]),
+    ),
+    Then("0 start 0 0 act 1 0 0 off 1"),
+    Ask(
+        "0 ask 1 1 c2 off n2 600000 0 name",
+        Levels(&[(1, &[Some(1)]), (2, &[Some(2)])]),
+    ),
+    Then("0 start 1 1 act 1 0 1 off 1"),
+    Call("60000 pass"),
+    Then("60000 start 2 1 act 2 0 2 off 1"),
 ];
 
 /// No device at all, and a line of an earlier moment.
@@ -96,10 +119,11 @@ const DELAY_OVER: [Step; 5] = [
 
 #[test]
 fn time_ends_tries_and_requests(rt: HostRuntime) -> Result<(), Fail> {
-    let sessions: [&[Step]; 7] = [
+    let sessions: [&[Step]; 8] = [
         &AT_THE_END,
         &BEFORE_THE_END,
         &BOTH_TOTALS,
+        &TWO_ENDS,
         &NO_DEVICE,
         &NEXT_CANDIDATE,
         &DELAY_NOT_OVER,

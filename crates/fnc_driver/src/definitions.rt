@@ -44,3 +44,16 @@ pub(crate) const KEEPING: &str =
 pub(crate) const LISTING: &str =
     " fence_v actions=on,off,reboot,list check=dynamic-list hosts= map= argument=port limit=1 priority=0 delay=0 \
     max=0 keep=0 on=on/60000/2 off=off/60000/2 reboot=reboot/60000/2 list=list/60000/2 status=status/60000/2";
+
+/// One whose first try waits for 7 milliseconds, and two of that kind: without `on`, and with a list of its nodes.
+pub(crate) const SLOW: &str =
+    " fence_x actions=on,off,reboot check=none hosts= map= argument=port limit=1 priority=0 delay=7 max=0 keep=0 \
+    on=on/20000/2 off=off/20000/2 reboot=reboot/20000/2 list=list/20000/2 status=status/20000/2";
+
+pub(crate) const SLOW_WITHOUT_ON: &str =
+    " fence_x actions=off,reboot check=none hosts= map= argument=port limit=1 priority=0 delay=7 max=0 keep=0 \
+    on=on/20000/2 off=off/20000/2 reboot=reboot/20000/2 list=list/20000/2 status=status/20000/2";
+
+pub(crate) const SLOW_LISTING: &str =
+    " fence_v actions=on,off,reboot,list check=dynamic-list hosts= map= argument=port limit=1 priority=0 delay=7 \
+    max=0 keep=0 on=on/20000/2 off=off/20000/2 reboot=reboot/20000/2 list=list/20000/2 status=status/20000/2";

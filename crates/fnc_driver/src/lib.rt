@@ -13,6 +13,8 @@ mod levels;
 #[cfg(test)]
 mod limits;
 #[cfg(test)]
+mod operations;
+#[cfg(test)]
 mod plans;
 #[cfg(test)]
 mod queries;

@@ -51,7 +51,8 @@ is_option_byte b = nat_le 0x21 b && not (b == 0x7F) && not (b == 61)
 -- a name of one such byte or more that does not begin with `#`
 abbrev pub is_option_name : List ℕ → Bool
 is_option_name [] = false
-is_option_name (b ∷ bs) = not (b == 35) && nat_le (length (b ∷ bs)) LONGEST_OPTION_NAME && list_all is_option_byte (b ∷ bs)
+is_option_name (b ∷ bs) =
+    not (b == 35) && nat_le (length (b ∷ bs)) LONGEST_OPTION_NAME && list_all is_option_byte (b ∷ bs)
 
 -- a byte that may stand in a value: no control byte
 abbrev pub is_value_byte : ℕ → Bool
@@ -124,7 +125,8 @@ abbrev pub is_action_word : List ℕ → Bool
 is_action_word word = nat_lt 0 (length word) && is_option_value word
 
 abbrev pub is_allowed : Allowed → Bool
-is_allowed a = is_action_word a.word && nat_lt 0 a.time && is_time a.time && nat_lt 0 a.tries && nat_le a.tries MOST_TRIES
+is_allowed a =
+    is_action_word a.word && nat_lt 0 a.time && is_time a.time && nat_lt 0 a.tries && nat_le a.tries MOST_TRIES
 
 -- an option that is passed on to the agent
 abbrev pub is_own_option : Pair → Bool
