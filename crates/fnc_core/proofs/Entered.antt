@@ -12,7 +12,7 @@ use Rattle.fnc_journal.specs.Owed.{owed}
 use Rattle.fnc_journal.specs.Startable.{alive_runs}
 use Rattle.fnc_journal.specs.Lawful.{in_order, exit_of, leads, pending, calm_entry}
 use Rattle.fnc_journal.proofs.Frames.{is_waiting, is_running, or_here-some, open_operations-frame, alive_runs-frame}
-use Rattle.fnc_ops.specs.declared.operation.Standing.{Standing}
+use Rattle.fnc_records.specs.declared.operation.Standing.{Standing}
 use Rattle.fnc_ops.specs.Kept.{Kept}
 use Rattle.fnc_ops.specs.OpsRecords.{waiting, AllWait}
 use Rattle.fnc_ops.specs.Stands.{StandsFor, AreAt, AreBounded}

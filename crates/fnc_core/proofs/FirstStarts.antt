@@ -20,12 +20,12 @@ use Rattle.fnc_queue.specs.Lanes.{lane_count}
 use Rattle.fnc_queue.specs.Places.{may_start, is_before, first_of}
 use Rattle.fnc_queue.specs.Queued.{Queued}
 use Rattle.fnc_queue.proofs.FirstLemmas.{IsLeast, Leads, leads}
-use Rattle.fnc_ops.specs.declared.operation.Standing.{Standing}
+use Rattle.fnc_records.specs.declared.operation.Standing.{Standing}
 use Rattle.fnc_ops.specs.Kept.{Kept}
 use Rattle.fnc_ops.specs.OpsRecords.{waiting}
-use Rattle.fnc_ops.specs.SlotFacts.{BothOr}
+use Rattle.fnc_records.specs.SlotFacts.{BothOr}
 use Rattle.fnc_ops.specs.Stands.{Try, IsTry, IsTryOf, try_of, try_at, try_ready}
-use Rattle.fnc_ops.proofs.Searches.{found-passes}
+use Rattle.fnc_records.proofs.Searches.{found-passes}
 use Rattle.fnc_core.specs.Wanted.{Waits, Lanes, item_for, cap_of}
 use Rattle.fnc_core.proofs.KnownTasks.{IsKnown, defined, known-operation, standing-known}
 use Rattle.fnc_core.proofs.RisingOperations.{AreRising, FindsItself, open-rising, open-found_itself}

@@ -3,10 +3,10 @@ use Rattle.std.proofs.Common.{ℕ, List, [], ◌∷◌, Bool, true, false, ◌�
 use Rattle.std.specs.Prelude.{option_map, option_and_then, find}
 use Rattle.std.specs.List.{list_any}
 use Rattle.fnc_journal.specs.History.{History}
-use Rattle.fnc_ops.specs.declared.operation.Standing.{Standing}
+use Rattle.fnc_records.specs.declared.operation.Standing.{Standing}
 use Rattle.fnc_ops.specs.Kept.{Kept}
-use Rattle.fnc_ops.specs.KeptOperation.{KeptOperation}
-use Rattle.fnc_ops.specs.OperationRecords as OperationRecords
+use Rattle.fnc_records.specs.KeptOperation.{KeptOperation}
+use Rattle.fnc_records.specs.OperationRecords as OperationRecords
 use Rattle.fnc_ops.specs.OpsRecords.{is_of, waiting}
 use Rattle.fnc_queue.specs.declared.waiting.Waiting.{Waiting}
 use Rattle.fnc_queue.specs.Items.{is_waiting, item_of, Changes}

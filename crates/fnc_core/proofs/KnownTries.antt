@@ -11,16 +11,16 @@ use Rattle.fnc_journal.specs.Acts.{acts}
 use Rattle.fnc_journal.specs.Standing.{standing}
 use Rattle.fnc_journal.specs.Operations.{operation, open_operations}
 use Rattle.fnc_journal.proofs.Closing.{open-found}
-use Rattle.fnc_ops.specs.declared.operation.Standing.{Standing}
-use Rattle.fnc_ops.specs.declared.slot.SlotRecord.{SlotRecord}
+use Rattle.fnc_records.specs.declared.operation.Standing.{Standing}
+use Rattle.fnc_records.specs.declared.slot.SlotRecord.{SlotRecord}
 use Rattle.fnc_ops.specs.Kept.{Kept}
-use Rattle.fnc_ops.specs.KeptOperation.{KeptOperation}
-use Rattle.fnc_ops.specs.SlotFacts.{BothOr}
-use Rattle.fnc_ops.specs.OperationRecords as OperationRecords
-use Rattle.fnc_ops.specs.OperationRecords.{standing_slot, standing_at, waiting_at, is_idle, since}
+use Rattle.fnc_records.specs.KeptOperation.{KeptOperation}
+use Rattle.fnc_records.specs.SlotFacts.{BothOr}
+use Rattle.fnc_records.specs.OperationRecords as OperationRecords
+use Rattle.fnc_records.specs.OperationRecords.{standing_slot, standing_at, waiting_at, is_idle, since}
 use Rattle.fnc_ops.specs.OpsRecords.{is_of, waiting}
 use Rattle.fnc_ops.specs.Stands.{Stands, StandsFor}
-use Rattle.fnc_ops.proofs.OperationAnswers.{IsShortSlot, standing_slot_is}
+use Rattle.fnc_records.proofs.OperationAnswers.{IsShortSlot, standing_slot_is}
 use Rattle.fnc_core.proofs.KnownTasks.{defined, known-operation, standing-known}
 
 is_defined : (x : Option Registration) (d : Definition) → defined x ≡ Some d → is_some x ≡ true

@@ -15,9 +15,9 @@ use Rattle.fnc_queue.specs.declared.waiting.Waiting.{Waiting}
 use Rattle.fnc_queue.specs.Items.{item_of}
 use Rattle.fnc_queue.specs.Places.{first_of}
 use Rattle.fnc_queue.specs.Queued.{Queued}
-use Rattle.fnc_ops.specs.declared.operation.Standing.{Standing}
+use Rattle.fnc_records.specs.declared.operation.Standing.{Standing}
 use Rattle.fnc_ops.specs.OpsRecords.{waiting}
-use Rattle.fnc_ops.specs.SlotFacts.{BothOr}
+use Rattle.fnc_records.specs.SlotFacts.{BothOr}
 use Rattle.fnc_ops.specs.Stands.{Try, IsTry, IsTryOf}
 use Rattle.fnc_ops.proofs.StandsTries.{waiting_found}
 use Rattle.fnc_core.specs.Between.{Rests, IsNextStart}

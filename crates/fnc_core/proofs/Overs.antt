@@ -14,7 +14,7 @@ use Rattle.fnc_journal.specs.Operations.{led, operation}
 use Rattle.fnc_journal.specs.Lawful.{Lawful, in_order, may_ask}
 use Rattle.fnc_journal.proofs.Frames.{or_here-some}
 use Rattle.fnc_journal.proofs.Lawfulness.{and-left, and-right, in_order-of}
-use Rattle.fnc_ops.specs.SlotRecords.{capped}
+use Rattle.fnc_records.specs.SlotRecords.{capped}
 use Rattle.fnc_core.specs.Limits.{over_by}
 
 -- what an entry says of a request that it asks

@@ -9,7 +9,7 @@ use Rattle.fnc_journal.specs.Owed.{owed}
 use Rattle.fnc_journal.specs.Startable.{alive_runs}
 use Rattle.fnc_journal.specs.Lawful.{Pending, pending, last_moment}
 use Rattle.fnc_ops.specs.Kept.{Kept}
-use Rattle.fnc_ops.specs.KeptOperation.{KeptOperation}
+use Rattle.fnc_records.specs.KeptOperation.{KeptOperation}
 use Rattle.fnc_ops.specs.OpsRecords.{is_of}
 use Rattle.fnc_ops.specs.Stands.{StandsFor, AreAt, AreBy}
 use Rattle.fnc_queue.specs.declared.waiting.Waiting.{Waiting}

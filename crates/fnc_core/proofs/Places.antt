@@ -9,7 +9,7 @@ use Rattle.fnc_journal.specs.Owed.{owed, owed_by, owed_by_all}
 use Rattle.fnc_journal.specs.Startable.{alive_runs}
 use Rattle.fnc_journal.specs.Lawful.{Lawful}
 use Rattle.fnc_ops.specs.Kept.{Kept}
-use Rattle.fnc_ops.specs.KeptOperation.{KeptOperation}
+use Rattle.fnc_records.specs.KeptOperation.{KeptOperation}
 use Rattle.fnc_ops.specs.OpsRecords.{is_of}
 use Rattle.fnc_ops.specs.Stands.{Stands, StandsFor}
 use Rattle.fnc_ops.proofs.Apart.{AreApart}

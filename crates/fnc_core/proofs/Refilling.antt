@@ -4,7 +4,7 @@ use Rattle.std.specs.Prelude.{option_map}
 use Rattle.std.specs.List.{list_any}
 use Rattle.fnc_journal.specs.History.{History}
 use Rattle.fnc_ops.specs.Kept.{Kept}
-use Rattle.fnc_ops.specs.KeptOperation.{KeptOperation}
+use Rattle.fnc_records.specs.KeptOperation.{KeptOperation}
 use Rattle.fnc_ops.specs.OpsRecords.{is_of}
 use Rattle.fnc_queue.specs.Items.{item_of, Changes}
 use Rattle.fnc_queue.specs.Queued.{Queued}

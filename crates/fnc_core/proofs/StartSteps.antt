@@ -24,7 +24,7 @@ use Rattle.fnc_queue.specs.Items.{item_of, is_waiting, Changes}
 use Rattle.fnc_queue.specs.Lanes.{CountsOneMore}
 use Rattle.fnc_queue.specs.Queued.{Queued}
 use Rattle.fnc_ops.specs.Kept.{Kept}
-use Rattle.fnc_ops.specs.KeptOperation.{KeptOperation}
+use Rattle.fnc_records.specs.KeptOperation.{KeptOperation}
 use Rattle.fnc_ops.specs.OpsRecords.{waiting, is_of, OthersWait}
 use Rattle.fnc_ops.specs.Stands.{StandsFor, AreAt, AwaitsTry, try_of, start_entry}
 use Rattle.fnc_ops.proofs.AliveCounts.{alive-started}

@@ -6,7 +6,7 @@ use Rattle.fnc_journal.specs.declared.entry.Kind.{Kind}
 use Rattle.fnc_journal.specs.History.{History}
 use Rattle.fnc_journal.specs.Found.{registration}
 use Rattle.fnc_journal.specs.Device.{allowed}
-use Rattle.fnc_ops.specs.SlotRecords.{capped}
+use Rattle.fnc_records.specs.SlotRecords.{capped}
 
 -- when the total time of a request is over that came at a moment
 abbrev pub over_by : ℕ → Event → ℕ

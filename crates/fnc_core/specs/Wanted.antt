@@ -6,9 +6,9 @@ use Rattle.fnc_journal.specs.Found.{registration}
 use Rattle.fnc_journal.specs.Registered.{lane}
 use Rattle.fnc_journal.specs.Startable.{alive, alive_runs}
 use Rattle.fnc_journal.specs.Owed.{owed}
-use Rattle.fnc_ops.specs.declared.operation.Standing.{Standing}
+use Rattle.fnc_records.specs.declared.operation.Standing.{Standing}
 use Rattle.fnc_ops.specs.Kept.{Kept}
-use Rattle.fnc_ops.specs.KeptOperation.{KeptOperation}
+use Rattle.fnc_records.specs.KeptOperation.{KeptOperation}
 use Rattle.fnc_ops.specs.OpsRecords.{waiting, is_of}
 use Rattle.fnc_queue.specs.declared.waiting.Waiting.{Waiting}
 use Rattle.fnc_queue.specs.Items.{item_of, is_waiting}

@@ -4,8 +4,9 @@ ghost use Rattle.std.specs.Prelude.{◌≡◌, Some, None, option_map};
 ghost use Rattle.fnc_core.specs.Wanted as Wanted;
 
 use fnc_journal::{Journal, Reg, Req};
-use fnc_ops::{Ops, Standing};
+use fnc_ops::Ops;
 use fnc_queue::Waiting;
+use fnc_records::Standing;
 
 /// How many runs of its lane a registration lets be alive at once. None without limit.
 fn cap_of(journal: &Journal, reg: Reg) -> Option<u32>

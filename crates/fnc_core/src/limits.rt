@@ -8,7 +8,7 @@ ghost use Rattle.fnc_ops.specs.Stands.{AreBounded};
 ghost use Rattle.fnc_core.specs.Limits as Limits;
 
 use fnc_journal::{Entry, Event, Journal, Kind, Reg, Req};
-use fnc_ops::Standing;
+use fnc_records::Standing;
 
 /// When the total time of a request is over, by its entry.
 fn over_by(entry: &Entry) -> u64

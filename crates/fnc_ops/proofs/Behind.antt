@@ -7,12 +7,12 @@ use Rattle.std.specs.Option.{option_or}
 use Rattle.fnc_journal.specs.declared.entry.Req.{Req}
 use Rattle.fnc_journal.specs.Missing.{has_come}
 use Rattle.fnc_ops.specs.declared.records.Expiry.{Expiry}
-use Rattle.fnc_ops.specs.declared.slot.SlotRecord.{SlotRecord}
-use Rattle.fnc_ops.specs.KeptLevel.{KeptLevel}
-use Rattle.fnc_ops.specs.KeptOperation.{KeptOperation}
-use Rattle.fnc_ops.specs.SlotRecords.{come_by, is_concluded}
-use Rattle.fnc_ops.specs.LevelRecords.{open_of, open_query, is_lost_by, standing_in}
-use Rattle.fnc_ops.specs.OperationRecords.{first_query, is_kept, standing_slot, expired_at, at_moment, only}
+use Rattle.fnc_records.specs.declared.slot.SlotRecord.{SlotRecord}
+use Rattle.fnc_records.specs.KeptLevel.{KeptLevel}
+use Rattle.fnc_records.specs.KeptOperation.{KeptOperation}
+use Rattle.fnc_records.specs.SlotRecords.{come_by, is_concluded}
+use Rattle.fnc_records.specs.LevelRecords.{open_of, open_query, is_lost_by, standing_in}
+use Rattle.fnc_records.specs.OperationRecords.{first_query, is_kept, standing_slot, expired_at, at_moment, only}
 use Rattle.fnc_ops.specs.OpsRecords.{expiry_by, sooner, first_expiry, first_expired, moved}
 use Rattle.fnc_ops.specs.Stands.{AreBy, behind}
 use Rattle.fnc_ops.proofs.StandsExits.{moment-ranked, req-ranked}

@@ -11,7 +11,7 @@ use Rattle.fnc_journal.specs.Found.{registration}
 use Rattle.fnc_journal.specs.Device.{Device}
 use Rattle.fnc_journal.specs.Slots.{device_of, is_fit, fit, fit_devices, place_of}
 use Rattle.fnc_ops.specs.Stands.{AreBounded}
-use Rattle.fnc_ops.proofs.LevelSteps.{ForSome}
+use Rattle.fnc_records.proofs.LevelSteps.{ForSome}
 
 -- a device's definition is within its bounds
 abbrev pub IsBoundedDevice : Device → Type 0

@@ -10,12 +10,12 @@ use Rattle.fnc_journal.specs.History.{History}
 use Rattle.fnc_journal.specs.Device.{Device}
 use Rattle.fnc_journal.specs.Slots.{Task, Operation, QueriedDevice, task, act_task, acts_from, ons_from, is_split, fit_devices, rank_of, device_of, place_of, queried, queried_from}
 use Rattle.fnc_journal.proofs.Each.{each-map}
-use Rattle.fnc_ops.specs.LevelFacts.{IsLevelSlot, IsQuery, IsLevel}
-use Rattle.fnc_ops.specs.OperationFacts.{IsCandidate, AreDistinct}
+use Rattle.fnc_records.specs.LevelFacts.{IsLevelSlot, IsQuery, IsLevel}
+use Rattle.fnc_records.specs.OperationFacts.{IsCandidate, AreDistinct}
 use Rattle.fnc_ops.specs.FreshRecords.{fresh_slot, fresh_level, fresh_candidate}
 use Rattle.fnc_ops.specs.Stands.{AreBounded}
-use Rattle.fnc_ops.proofs.Distinct.{other-place}
-use Rattle.fnc_ops.proofs.LevelSteps.{ForSome}
+use Rattle.fnc_records.proofs.Distinct.{other-place}
+use Rattle.fnc_records.proofs.LevelSteps.{ForSome}
 use Rattle.fnc_ops.proofs.FreshDevices.{IsBoundedDevice, bounded-device, bounded-devices}
 use Rattle.fnc_ops.proofs.FreshSlots.{level_slot-fresh, query_slot-fresh}
 

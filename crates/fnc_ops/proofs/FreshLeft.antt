@@ -5,7 +5,7 @@ use Rattle.std.specs.List.{cons_option}
 use Rattle.fnc_journal.specs.declared.entry.Kind.{Kind}
 use Rattle.fnc_journal.specs.Slots.{Task, Rank, QueriedDevice, tries, act_task, ranked_from, slots_of}
 use Rattle.fnc_journal.specs.Owed.{tries_of}
-use Rattle.fnc_ops.specs.OperationFacts.{left_of, left_in, left_query, left_levels}
+use Rattle.fnc_records.specs.OperationFacts.{left_of, left_in, left_query, left_levels}
 use Rattle.fnc_ops.specs.FreshRecords.{fresh_slot, fresh_level, fresh_candidate}
 use Rattle.fnc_ops.proofs.FreshTries.{tries_of-append, ranked-tries}
 

@@ -11,19 +11,19 @@ use Rattle.fnc_journal.specs.Slots.{Operation, Rank, QueriedDevice, is_levelled,
 use Rattle.fnc_journal.specs.Standing.{queries_concluded}
 use Rattle.fnc_journal.specs.Owed.{untried, tries_of}
 use Rattle.fnc_ops.specs.declared.ops.Operation.{Operation as Request}
-use Rattle.fnc_ops.specs.declared.slot.SlotRecord.{SlotRecord}
-use Rattle.fnc_ops.specs.KeptLevel.{KeptLevel}
-use Rattle.fnc_ops.specs.KeptOperation.{KeptOperation}
-use Rattle.fnc_ops.specs.LevelRecords.{is_queried}
-use Rattle.fnc_ops.specs.LevelFacts.{IsQuerySlot, IsLevel}
-use Rattle.fnc_ops.specs.OperationFacts.{AreDistinct, IsOperation, IsCandidate, kept_queries, tried_levels, left_levels}
+use Rattle.fnc_records.specs.declared.slot.SlotRecord.{SlotRecord}
+use Rattle.fnc_records.specs.KeptLevel.{KeptLevel}
+use Rattle.fnc_records.specs.KeptOperation.{KeptOperation}
+use Rattle.fnc_records.specs.LevelRecords.{is_queried}
+use Rattle.fnc_records.specs.LevelFacts.{IsQuerySlot, IsLevel}
+use Rattle.fnc_records.specs.OperationFacts.{AreDistinct, IsOperation, IsCandidate, kept_queries, tried_levels, left_levels}
 use Rattle.fnc_ops.specs.FreshRecords.{fresh_level, fresh_candidate, fresh_levels, unseen_operation, fresh_operation, begun_by, all_tries_after}
 use Rattle.fnc_ops.specs.Stands.{AreBounded, AreFewDevices}
-use Rattle.fnc_ops.proofs.Ranking.{ranks_by}
-use Rattle.fnc_ops.proofs.OperationSteps.{rank_by, ranked-once}
+use Rattle.fnc_records.proofs.Ranking.{ranks_by}
+use Rattle.fnc_records.proofs.OperationSteps.{rank_by, ranked-once}
 use Rattle.fnc_ops.proofs.StandsExits.{untried-ranked}
 use Rattle.fnc_ops.proofs.FreshFacts.{levels-fresh, candidates-fresh, queries-distinct, queried-few}
-use Rattle.fnc_ops.proofs.LeftTries.{left-ranked}
+use Rattle.fnc_records.proofs.LeftTries.{left-ranked}
 use Rattle.fnc_ops.proofs.FreshLeft.{levels-left, candidates-left}
 use Rattle.fnc_ops.proofs.FreshTries.{levels-tried, candidates-tried, levels-few, queries-few, acts-few, tries_of-append}
 

@@ -14,8 +14,8 @@ use Rattle.fnc_journal.specs.Device.{allowed, base_of, delay, delay_for, drawn, 
 use Rattle.fnc_journal.specs.Slots.{Task, Operation}
 use Rattle.fnc_journal.specs.Acts.{is_query}
 use Rattle.fnc_ops.specs.FreshRecords.{fresh_slot}
-use Rattle.fnc_ops.specs.SlotFacts.{IsSlot}
-use Rattle.fnc_ops.specs.LevelFacts.{IsShort, IsTrying, IsLevelSlot, IsQuerySlot}
+use Rattle.fnc_records.specs.SlotFacts.{IsSlot}
+use Rattle.fnc_records.specs.LevelFacts.{IsShort, IsTrying, IsLevelSlot, IsQuerySlot}
 
 -- an action's time and tries are within bounds
 pub record IsFew (a : Allowed) : Type 0 where

@@ -10,14 +10,14 @@ use Rattle.fnc_journal.specs.History.{History}
 use Rattle.fnc_journal.specs.Device.{Device}
 use Rattle.fnc_journal.specs.Slots.{Task, Rank, QueriedDevice, tries, task, act_task, acts_from, ons_from, is_split, fit_devices, rank_of, device_of, place_of, queried, queried_from, ranked_from, slots_of}
 use Rattle.fnc_journal.specs.Owed.{tries_of}
-use Rattle.fnc_ops.specs.SlotRecords.{capped}
+use Rattle.fnc_records.specs.SlotRecords.{capped}
 use Rattle.fnc_ops.specs.FreshRecords.{fresh_slot, fresh_level, fresh_candidate, tries_after, query_tries_after, level_tries_after, all_tries_after}
 use Rattle.fnc_ops.specs.Stands.{AreBounded, AreFewDevices}
-use Rattle.fnc_ops.proofs.LevelSteps.{ForSome}
-use Rattle.fnc_ops.proofs.SlotSteps.{capped_32}
+use Rattle.fnc_records.proofs.LevelSteps.{ForSome}
+use Rattle.fnc_records.proofs.SlotSteps.{capped_32}
 use Rattle.fnc_ops.proofs.FreshDevices.{IsBoundedDevice, bounded-device, bounded-devices, devices-few}
 use Rattle.fnc_ops.proofs.FreshSlots.{allowed-few}
-use Rattle.fnc_ops.proofs.Ranking.{one_device}
+use Rattle.fnc_records.proofs.Ranking.{one_device}
 
 pub tries_of-append : (xs ys : List Task) → tries_of (xs ++ ys) ≡ tries_of xs + tries_of ys
 tries_of-append [] ys = let e : tries_of ys ≡ 0 + tries_of ys = omega arith in e

@@ -1,21 +1,7 @@
-pub mod SlotSteps
-pub mod SlotAnswers
-pub mod Counts
+-- The records of the open operations stand for the journal with each event, and a plan within its bounds begins
+-- an operation whose record is that of the definitions.
 pub mod AliveCounts
-pub mod Zip
-pub mod LevelSteps
-pub mod LevelAnswers
-pub mod LevelLists
-pub mod Latest
-pub mod OperationAnswers
-pub mod Ranking
-pub mod OperationSteps
-pub mod Searches
-pub mod Distinct
-pub mod LeftTries
 pub mod Turns
-pub mod StandingSlots
-pub mod EarlyMoments
 pub mod StandsAnswers
 pub mod Tries
 pub mod StandsTries

@@ -8,9 +8,10 @@ use Rattle.fnc_journal.specs.Slots.{Operation}
 use Rattle.fnc_journal.specs.Owed as Owed
 use Rattle.fnc_journal.specs.Operations.{open_operations}
 use Rattle.fnc_ops.specs.Kept.{Kept}
-use Rattle.fnc_ops.specs.KeptOperation.{KeptOperation}
-use Rattle.fnc_ops.specs.SlotRecords.{capped}
-use Rattle.fnc_ops.specs.OpsRecords.{owed_by, owed_by_all, owed_with, owed}
+use Rattle.fnc_records.specs.KeptOperation.{KeptOperation}
+use Rattle.fnc_records.specs.SlotRecords.{capped}
+use Rattle.fnc_records.specs.OperationRecords.{owed_by}
+use Rattle.fnc_ops.specs.OpsRecords.{owed_by_all, owed_with, owed}
 use Rattle.fnc_ops.specs.Stands.{Stands, StandsFor, numbers}
 
 -- a sum that fits is exact

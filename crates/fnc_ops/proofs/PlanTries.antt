@@ -15,11 +15,11 @@ use Rattle.fnc_journal.specs.Owed.{tries_of}
 use Rattle.fnc_journal.specs.Slots.{QueriedDevice, tries, act_task, acts_from, ons_from, task, is_split, rank, rank_of, device_of, place_of, queried, queried_from, ranked_from, slots_of, is_levelled, all_slots, operation_by}
 use Rattle.fnc_ops.specs.FreshRecords.{splits}
 use Rattle.fnc_ops.specs.PlanTries.{sum_from, first_tries, on_tries, place_tries, level_tries, query_tries, act_tries, device_tries, candidate_tries, ranked_tries, plan_tries}
-use Rattle.fnc_ops.specs.SlotRecords.{capped}
+use Rattle.fnc_records.specs.SlotRecords.{capped}
 use Rattle.fnc_ops.specs.Stands.{AreBounded, AreFewDevices}
 use Rattle.fnc_ops.proofs.FreshLevels.{any-map, no_split, splits-there}
 use Rattle.fnc_ops.proofs.FreshTries.{tries_of-append, level-tries, levels-few, queries-few, acts-few, ranked-tries}
-use Rattle.fnc_ops.proofs.SlotSteps.{capped_32}
+use Rattle.fnc_records.proofs.SlotSteps.{capped_32}
 
 -- the sum of these
 abbrev total : List ℕ → ℕ

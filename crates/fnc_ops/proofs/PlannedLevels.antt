@@ -12,8 +12,8 @@ use Rattle.fnc_journal.specs.Levels.{Level, with_level, without_level, levels_af
 use Rattle.fnc_journal.specs.Plan.{Wanted, plan, plan_level}
 use Rattle.fnc_journal.specs.Same.{same_target}
 use Rattle.fnc_journal.specs.Slots.{rank_of, place_of, slots_of}
-use Rattle.fnc_ops.specs.OperationFacts.{AreDistinct}
-use Rattle.fnc_ops.proofs.Distinct.{AreOfLevel, AreRising, rank-distinct, ranks-distinct}
+use Rattle.fnc_records.specs.OperationFacts.{AreDistinct}
+use Rattle.fnc_records.proofs.Distinct.{AreOfLevel, AreRising, rank-distinct, ranks-distinct}
 
 -- the indices of levels rise, from one on
 abbrev AreFrom : ℕ → List Level → Type 0

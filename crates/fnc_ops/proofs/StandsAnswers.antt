@@ -9,13 +9,13 @@ use Rattle.fnc_journal.specs.Slots.{Operation}
 use Rattle.fnc_journal.specs.Acts.{acts}
 use Rattle.fnc_journal.specs.Operations.{is_due, due_to, first_due, open_operations}
 use Rattle.fnc_ops.specs.declared.ops.Due.{Due}
-use Rattle.fnc_ops.specs.KeptOperation.{KeptOperation}
-use Rattle.fnc_ops.specs.OperationRecords as OperationRecords
-use Rattle.fnc_ops.specs.OperationFacts.{IsOperation}
+use Rattle.fnc_records.specs.KeptOperation.{KeptOperation}
+use Rattle.fnc_records.specs.OperationRecords as OperationRecords
+use Rattle.fnc_records.specs.OperationFacts.{IsOperation}
 use Rattle.fnc_ops.specs.OpsRecords as OpsRecords
 use Rattle.fnc_ops.specs.OpsRecords.{DueTo, shown}
 use Rattle.fnc_ops.specs.Stands.{Stands, StandEach, AreAt, IsFirstDue}
-use Rattle.fnc_ops.proofs.OperationAnswers.{due_is}
+use Rattle.fnc_records.proofs.OperationAnswers.{due_is}
 use Rattle.fnc_journal.specs.Due.{due}
 
 abbrev Found : History → ℕ → Option DueTo → Option Operation → Type 0

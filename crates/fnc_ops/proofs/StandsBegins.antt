@@ -20,14 +20,14 @@ use Rattle.fnc_journal.proofs.Fresh.{open-small, unasked_idle}
 use Rattle.fnc_journal.proofs.Requests.{fresh_ask}
 use Rattle.fnc_ops.specs.declared.ops.Operation.{Operation as Begun}
 use Rattle.fnc_ops.specs.Kept.{Kept}
-use Rattle.fnc_ops.specs.KeptOperation.{KeptOperation}
-use Rattle.fnc_ops.specs.OperationFacts.{IsOperation, left_levels}
+use Rattle.fnc_records.specs.KeptOperation.{KeptOperation}
+use Rattle.fnc_records.specs.OperationFacts.{IsOperation, left_levels}
 use Rattle.fnc_ops.specs.FreshRecords.{unseen_operation, fresh_operation, begun_by, asked_of, wanted_by}
 use Rattle.fnc_ops.specs.OpsRecords.{is_of, OthersWait}
-use Rattle.fnc_ops.specs.OperationRecords as OperationRecords
-use Rattle.fnc_ops.specs.OperationRecords.{ranked_if_queried, ranked_levels}
+use Rattle.fnc_records.specs.OperationRecords as OperationRecords
+use Rattle.fnc_records.specs.OperationRecords.{ranked_if_queried, ranked_levels}
 use Rattle.fnc_ops.specs.Stands.{IsKept, Stands, StandsFor, AreBounded, AreFewDevices, ask_entry, begun_request, numbers}
-use Rattle.fnc_ops.proofs.Zip.{zip_append}
+use Rattle.fnc_records.proofs.Zip.{zip_append}
 use Rattle.fnc_ops.proofs.StandsExits.{req-ranked, moment-ranked, members-ranked, confirmed-ranked}
 use Rattle.fnc_ops.proofs.FreshOperations.{planned-bare, operation-fresh, untried-fresh, left-fresh}
 use Rattle.fnc_ops.proofs.PlannedLevels.{planned-distinct}

@@ -21,16 +21,16 @@ use Rattle.fnc_journal.proofs.AliveRuns.{alive_is_last}
 use Rattle.fnc_journal.proofs.Frames.{or_here-some}
 use Rattle.fnc_journal.proofs.Lawfulness.{and-left, and-right}
 use Rattle.fnc_journal.proofs.RunsOfOne.{runner-of, run-of_other}
-use Rattle.fnc_ops.specs.KeptOperation.{KeptOperation}
-use Rattle.fnc_ops.specs.LevelFacts.{AreFew}
-use Rattle.fnc_ops.specs.LevelRecords.{is_queried, level_ended}
-use Rattle.fnc_ops.specs.OperationRecords.{only, operation_ended, ranked_if_queried, ranked_levels}
-use Rattle.fnc_ops.specs.OperationFacts.{IsOperation, last_begun, left_levels}
+use Rattle.fnc_records.specs.KeptOperation.{KeptOperation}
+use Rattle.fnc_records.specs.LevelFacts.{AreFew}
+use Rattle.fnc_records.specs.LevelRecords.{is_queried, level_ended}
+use Rattle.fnc_records.specs.OperationRecords.{only, operation_ended, ranked_if_queried, ranked_levels}
+use Rattle.fnc_records.specs.OperationFacts.{IsOperation, last_begun, left_levels}
 use Rattle.fnc_ops.specs.OpsRecords.{ended}
 use Rattle.fnc_ops.specs.Stands.{IsKept, Stands, StandEach, AreAt, exit_entry, numbers}
-use Rattle.fnc_ops.proofs.LeftTries.{left-ranked, left-ended}
-use Rattle.fnc_ops.proofs.OperationSteps.{operation-ended}
-use Rattle.fnc_ops.proofs.StandingSlots.{run-query, alive-last, alive-late}
+use Rattle.fnc_records.proofs.LeftTries.{left-ranked, left-ended}
+use Rattle.fnc_records.proofs.OperationSteps.{operation-ended}
+use Rattle.fnc_records.proofs.StandingSlots.{run-query, alive-last, alive-late}
 use Rattle.fnc_ops.proofs.StandsSteps.{acts-few}
 
 -- what a run was started for, it is a run of

@@ -15,8 +15,8 @@ use Rattle.fnc_journal.specs.Lawful.{Lawful}
 use Rattle.fnc_journal.proofs.Each.{each-map, each-filter, filter-append, filter-same, filter_map-same}
 use Rattle.fnc_journal.proofs.Closing.{everywhere}
 use Rattle.fnc_journal.proofs.Fresh.{unasked_unanswered, unasked_unrequested, operations-small}
-use Rattle.fnc_ops.specs.KeptOperation.{KeptOperation}
-use Rattle.fnc_ops.specs.OperationRecords.{with_member}
+use Rattle.fnc_records.specs.KeptOperation.{KeptOperation}
+use Rattle.fnc_records.specs.OperationRecords.{with_member}
 use Rattle.fnc_ops.specs.OpsRecords.{is_of, joined, waiting}
 use Rattle.fnc_ops.specs.Stands.{Stands, StandEach, AreAt, numbers, ask_entry}
 use Rattle.fnc_ops.proofs.Apart.{AreApart}

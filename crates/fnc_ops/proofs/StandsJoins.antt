@@ -11,13 +11,13 @@ use Rattle.fnc_journal.specs.Slots.{Task, Operation}
 use Rattle.fnc_journal.specs.Acts.{acts}
 use Rattle.fnc_journal.specs.Operations as Operations
 use Rattle.fnc_journal.specs.Operations.{open_operations, stands_at, is_on, is_on_phase, joined}
-use Rattle.fnc_ops.specs.declared.slot.SlotRecord.{SlotRecord}
-use Rattle.fnc_ops.specs.KeptOperation.{KeptOperation}
-use Rattle.fnc_ops.specs.SlotFacts.{BothOr}
-use Rattle.fnc_ops.specs.OperationRecords.{standing_slot, is_joinable}
+use Rattle.fnc_records.specs.declared.slot.SlotRecord.{SlotRecord}
+use Rattle.fnc_records.specs.KeptOperation.{KeptOperation}
+use Rattle.fnc_records.specs.SlotFacts.{BothOr}
+use Rattle.fnc_records.specs.OperationRecords.{standing_slot, is_joinable}
 use Rattle.fnc_ops.specs.OpsRecords.{joinable}
 use Rattle.fnc_ops.specs.Stands.{Stands, StandEach, AreAt}
-use Rattle.fnc_ops.proofs.OperationAnswers.{IsShortSlot, standing_slot_is}
+use Rattle.fnc_records.proofs.OperationAnswers.{IsShortSlot, standing_slot_is}
 
 on_of : (o : Operation) (h : History) (x : Option SlotRecord) (y : Option Task) → BothOr (IsShortSlot o (acts o.req h)) x y →
     unwrap_or (option_map (λ (s : SlotRecord). is_on_phase s.slot.phase) x) false ≡ unwrap_or (option_map is_on y) false

@@ -8,16 +8,16 @@ use Rattle.fnc_journal.specs.Slots.{Task, Operation}
 use Rattle.fnc_journal.specs.Acts.{acts, end}
 use Rattle.fnc_journal.specs.Operations.{open_operations, stands_at}
 use Rattle.fnc_ops.specs.declared.records.Expiry.{Expiry}
-use Rattle.fnc_ops.specs.declared.slot.SlotRecord.{SlotRecord}
-use Rattle.fnc_ops.specs.KeptOperation.{KeptOperation}
-use Rattle.fnc_ops.specs.SlotFacts.{BothOr}
-use Rattle.fnc_ops.specs.SlotRecords.{come_by}
-use Rattle.fnc_ops.specs.OperationFacts.{IsOperation}
-use Rattle.fnc_ops.specs.OperationRecords.{at_moment, only, standing_slot}
+use Rattle.fnc_records.specs.declared.slot.SlotRecord.{SlotRecord}
+use Rattle.fnc_records.specs.KeptOperation.{KeptOperation}
+use Rattle.fnc_records.specs.SlotFacts.{BothOr}
+use Rattle.fnc_records.specs.SlotRecords.{come_by}
+use Rattle.fnc_records.specs.OperationFacts.{IsOperation}
+use Rattle.fnc_records.specs.OperationRecords.{at_moment, only, standing_slot}
 use Rattle.fnc_ops.specs.OpsRecords.{expiry_by, expiry_of, sooner, first_expiry, first_expired, moved}
 use Rattle.fnc_ops.specs.Stands.{Stands, StandEach, AreAt, AreBy, Ending, ending, ending_of, sooner_ending, first_ending, first_ended, numbers}
-use Rattle.fnc_ops.proofs.OperationAnswers.{IsShortSlot, standing_slot_is}
-use Rattle.fnc_ops.proofs.OperationSteps.{operation-later}
+use Rattle.fnc_records.proofs.OperationAnswers.{IsShortSlot, standing_slot_is}
+use Rattle.fnc_records.proofs.OperationSteps.{operation-later}
 use Rattle.fnc_ops.proofs.StandsExits.{moment-ranked, members-ranked, confirmed-ranked, untried-ranked, enough-ranked}
 
 -- the first that has come to its end

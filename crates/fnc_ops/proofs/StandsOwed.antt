@@ -12,9 +12,9 @@ use Rattle.fnc_journal.specs.Startable.{alive_runs}
 use Rattle.fnc_journal.specs.Operations.{open_operations, unanswered, settled}
 use Rattle.fnc_journal.specs.Owed.{untried, owed_by, owed_by_all, owed}
 use Rattle.fnc_journal.proofs.ActsLemmas.{acts-start, acts-other_start}
-use Rattle.fnc_ops.specs.KeptOperation.{KeptOperation}
-use Rattle.fnc_ops.specs.LevelRecords.{level_started}
-use Rattle.fnc_ops.specs.OperationFacts.{left_levels}
+use Rattle.fnc_records.specs.KeptOperation.{KeptOperation}
+use Rattle.fnc_records.specs.LevelRecords.{level_started}
+use Rattle.fnc_records.specs.OperationFacts.{left_levels}
 use Rattle.fnc_ops.specs.Stands.{StandEach, AreAt, Try, AwaitsTry, try_of, start_entry, of_try}
 use Rattle.fnc_ops.proofs.AliveCounts.{alive-started}
 use Rattle.fnc_ops.proofs.Apart.{AreApart}

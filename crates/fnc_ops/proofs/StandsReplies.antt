@@ -15,17 +15,17 @@ use Rattle.fnc_journal.proofs.Each.{filter-same, filter-or, each-filter}
 use Rattle.fnc_journal.proofs.Requests.{IsLed, requests-led, unanswered-other_reply}
 use Rattle.fnc_journal.proofs.Members.{unanswered-reply}
 use Rattle.fnc_journal.proofs.Closing.{operation-req, filter-and, everywhere}
-use Rattle.fnc_ops.specs.KeptOperation.{KeptOperation}
-use Rattle.fnc_ops.specs.OperationFacts.{IsOperation}
-use Rattle.fnc_ops.specs.OperationRecords as OperationRecords
-use Rattle.fnc_ops.specs.OperationRecords.{only, rest_of, is_waiting}
+use Rattle.fnc_records.specs.KeptOperation.{KeptOperation}
+use Rattle.fnc_records.specs.OperationFacts.{IsOperation}
+use Rattle.fnc_records.specs.OperationRecords as OperationRecords
+use Rattle.fnc_records.specs.OperationRecords.{only, rest_of, is_waiting}
 use Rattle.fnc_ops.specs.OpsRecords as OpsRecords
 use Rattle.fnc_ops.specs.OpsRecords.{is_of, waiting}
 use Rattle.fnc_ops.specs.Stands.{Stands, StandEach, AreAt, numbers, reply_entry, next_of}
 use Rattle.fnc_ops.proofs.OpenOperations.{each-open}
-use Rattle.fnc_ops.proofs.Searches.{found-passes}
+use Rattle.fnc_records.proofs.Searches.{found-passes}
 use Rattle.fnc_ops.proofs.Waits.{at-map, moment-only, waiting-only, waiting-kept}
-use Rattle.fnc_ops.proofs.Zip.{zip_map, zip_filter}
+use Rattle.fnc_records.proofs.Zip.{zip_map, zip_filter}
 
 -- a test of the numbers is a test of the operations
 through : (h : History) (q : ℕ → Bool) (os : List ℕ) → filter_map (λ o. operation o h) (filter q os) ≡ filter (λ (o : Operation). q o.req) (filter_map (λ o. operation o h) os)

@@ -15,18 +15,18 @@ use Rattle.fnc_journal.proofs.ActsLemmas.{acts-start, acts-other_start}
 use Rattle.fnc_journal.proofs.Closing.{open-found}
 use Rattle.fnc_journal.proofs.Requests.{operation-asked}
 use Rattle.fnc_journal.proofs.Each.{each-map}
-use Rattle.fnc_ops.specs.declared.slot.SlotRecord.{SlotRecord}
-use Rattle.fnc_ops.specs.KeptOperation.{KeptOperation}
-use Rattle.fnc_ops.specs.SlotFacts.{BothOr, last_of}
-use Rattle.fnc_ops.specs.LevelFacts.{AreFew}
-use Rattle.fnc_ops.specs.LevelRecords.{level_started}
-use Rattle.fnc_ops.specs.OperationRecords.{is_idle, standing_slot, started_at, start_standing, operation_started, operation_confirmed, only}
-use Rattle.fnc_ops.specs.OperationFacts.{IsOperation, left_levels}
+use Rattle.fnc_records.specs.declared.slot.SlotRecord.{SlotRecord}
+use Rattle.fnc_records.specs.KeptOperation.{KeptOperation}
+use Rattle.fnc_records.specs.SlotFacts.{BothOr, last_of}
+use Rattle.fnc_records.specs.LevelFacts.{AreFew}
+use Rattle.fnc_records.specs.LevelRecords.{level_started}
+use Rattle.fnc_records.specs.OperationRecords.{is_idle, standing_slot, started_at, start_standing, operation_started, operation_confirmed, only}
+use Rattle.fnc_records.specs.OperationFacts.{IsOperation, left_levels}
 use Rattle.fnc_ops.specs.Stands.{IsKept, Stands, StandEach, AreAt, Try, EachAwaits, try_of, start_entry, of_try, confirm_entry}
-use Rattle.fnc_ops.proofs.OperationAnswers.{IsShortSlot, standing_slot_is}
-use Rattle.fnc_ops.proofs.OperationSteps.{operation-started}
-use Rattle.fnc_ops.proofs.StandingSlots.{standing-free, levels-free, standing-query}
-use Rattle.fnc_ops.proofs.LeftTries.{HasLeft, left-started}
+use Rattle.fnc_records.proofs.OperationAnswers.{IsShortSlot, standing_slot_is}
+use Rattle.fnc_records.proofs.OperationSteps.{operation-started}
+use Rattle.fnc_records.proofs.StandingSlots.{standing-free, levels-free, standing-query}
+use Rattle.fnc_records.proofs.LeftTries.{HasLeft, left-started}
 use Rattle.fnc_ops.proofs.Tries.{HasTries}
 use Rattle.fnc_ops.proofs.StandsTries.{IsAt, each-at, operation-at, tries-at, idle-ready, ready-for}
 

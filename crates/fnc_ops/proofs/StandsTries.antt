@@ -10,23 +10,23 @@ use Rattle.fnc_journal.specs.Standing.{since, ready, ready_after}
 use Rattle.fnc_journal.specs.Operations.{operation, open_operations, stands_at, is_due, settled}
 use Rattle.fnc_journal.specs.Lawful.{Lawful}
 use Rattle.fnc_journal.proofs.Closing.{open-found}
-use Rattle.fnc_ops.specs.declared.operation.Standing.{Standing}
-use Rattle.fnc_ops.specs.declared.slot.LastRun.{LastRun}
-use Rattle.fnc_ops.specs.declared.slot.SlotRecord.{SlotRecord}
-use Rattle.fnc_ops.specs.KeptOperation.{KeptOperation}
-use Rattle.fnc_ops.specs.SlotFacts.{IsSlot, BothOr, last_of}
-use Rattle.fnc_ops.specs.OperationRecords as OperationRecords
-use Rattle.fnc_ops.specs.OperationRecords.{is_idle, standing_at, standing_slot, waiting_at}
-use Rattle.fnc_ops.specs.OperationFacts.{IsOperation, IsStandingAt, IsStanding, last_begun}
+use Rattle.fnc_records.specs.declared.operation.Standing.{Standing}
+use Rattle.fnc_records.specs.declared.slot.LastRun.{LastRun}
+use Rattle.fnc_records.specs.declared.slot.SlotRecord.{SlotRecord}
+use Rattle.fnc_records.specs.KeptOperation.{KeptOperation}
+use Rattle.fnc_records.specs.SlotFacts.{IsSlot, BothOr, last_of}
+use Rattle.fnc_records.specs.OperationRecords as OperationRecords
+use Rattle.fnc_records.specs.OperationRecords.{is_idle, standing_at, standing_slot, waiting_at}
+use Rattle.fnc_records.specs.OperationFacts.{IsOperation, IsStandingAt, IsStanding, last_begun}
 use Rattle.fnc_ops.specs.OpsRecords as OpsRecords
 use Rattle.fnc_ops.specs.OpsRecords.{is_of}
 use Rattle.fnc_ops.specs.Stands.{Stands, StandEach, AreAt, IsStandingAtMoment, IsStandingOf, Try, IsTry, IsTryOf, try_of, try_at, try_ready}
-use Rattle.fnc_ops.proofs.EarlyMoments.{since-early}
-use Rattle.fnc_ops.proofs.OperationAnswers.{IsShortSlot, standing_slot_is, standing_at_is, standing_is}
-use Rattle.fnc_ops.proofs.Searches.{none-each}
-use Rattle.fnc_ops.proofs.SlotAnswers.{Agrees, last-agrees}
+use Rattle.fnc_records.proofs.EarlyMoments.{since-early}
+use Rattle.fnc_records.proofs.OperationAnswers.{IsShortSlot, standing_slot_is, standing_at_is, standing_is}
+use Rattle.fnc_records.proofs.Searches.{none-each}
+use Rattle.fnc_records.proofs.SlotAnswers.{Agrees, last-agrees}
 use Rattle.fnc_ops.proofs.Tries.{HasTries, not-over, standing-tries}
-use Rattle.fnc_ops.proofs.Zip.{zip_find}
+use Rattle.fnc_records.proofs.Zip.{zip_find}
 
 -- what is known of an open operation and of its record at a moment at which no answer is due
 pub record IsAt (h : History) (m : ℕ) (r : KeptOperation) (o : Operation) : Type 0 where

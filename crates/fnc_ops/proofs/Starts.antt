@@ -18,22 +18,22 @@ use Rattle.fnc_journal.proofs.Each.{any-same, each-map, found-each}
 use Rattle.fnc_journal.proofs.LawfulSteps.{same_slot-self}
 use Rattle.fnc_journal.proofs.SlotLemmas.{same-begun}
 use Rattle.fnc_journal.proofs.StandingLemmas.{Same, EachSame, EachRank, ranks-same, standing-same, due-same}
-use Rattle.fnc_ops.specs.declared.slot.SlotRecord.{SlotRecord}
-use Rattle.fnc_ops.specs.KeptOperation.{KeptOperation}
-use Rattle.fnc_ops.specs.SlotFacts.{BothOr}
-use Rattle.fnc_ops.specs.LevelFacts.{IsShort}
-use Rattle.fnc_ops.specs.OperationRecords as OperationRecords
-use Rattle.fnc_ops.specs.OperationRecords.{only, start_standing, standing_slot, waiting_at}
-use Rattle.fnc_ops.specs.OperationFacts.{IsOperation}
+use Rattle.fnc_records.specs.declared.slot.SlotRecord.{SlotRecord}
+use Rattle.fnc_records.specs.KeptOperation.{KeptOperation}
+use Rattle.fnc_records.specs.SlotFacts.{BothOr}
+use Rattle.fnc_records.specs.LevelFacts.{IsShort}
+use Rattle.fnc_records.specs.OperationRecords as OperationRecords
+use Rattle.fnc_records.specs.OperationRecords.{only, start_standing, standing_slot, waiting_at}
+use Rattle.fnc_records.specs.OperationFacts.{IsOperation}
 use Rattle.fnc_ops.specs.OpsRecords as OpsRecords
 use Rattle.fnc_ops.specs.OpsRecords.{is_of}
 use Rattle.fnc_ops.specs.Stands.{Stands, StandEach, AreAt, Try, AwaitsTry, EachAwaits, try_of, try_at, try_ready, start_entry}
-use Rattle.fnc_ops.proofs.EarlyMoments.{queries-short, ranks-short}
-use Rattle.fnc_ops.proofs.OperationAnswers.{IsShortSlot, standing_slot_is}
-use Rattle.fnc_ops.proofs.Searches.{found-passes}
+use Rattle.fnc_records.proofs.EarlyMoments.{queries-short, ranks-short}
+use Rattle.fnc_records.proofs.OperationAnswers.{IsShortSlot, standing_slot_is}
+use Rattle.fnc_records.proofs.Searches.{found-passes}
 use Rattle.fnc_ops.proofs.StandsTries.{IsAt, each-at, operation-at, idle_is, ready-for}
 use Rattle.fnc_ops.proofs.Waits.{at-map, moment-only, moment-started}
-use Rattle.fnc_ops.proofs.Zip.{zip_each}
+use Rattle.fnc_records.proofs.Zip.{zip_each}
 
 some_operation : (a b : Operation) → ◌≡◌ {A = Option Operation} (Some a) (Some b) → a ≡ b
 some_operation a b e = cc

@@ -15,14 +15,14 @@ use Rattle.fnc_journal.specs.Standing as Standing
 use Rattle.fnc_journal.specs.Standing.{ranks, queries_concluded, lost}
 use Rattle.fnc_journal.specs.Due.{is_confirmed, answer_passed, passed_among, failure_due, due_by_acts}
 use Rattle.fnc_journal.specs.Operations.{is_due}
-use Rattle.fnc_ops.specs.declared.slot.SlotRecord.{SlotRecord}
-use Rattle.fnc_ops.specs.KeptOperation.{KeptOperation}
-use Rattle.fnc_ops.specs.SlotFacts.{BothOr, last_of}
-use Rattle.fnc_ops.specs.OperationRecords.{is_idle, standing_slot}
-use Rattle.fnc_ops.specs.OperationFacts.{IsOperation}
+use Rattle.fnc_records.specs.declared.slot.SlotRecord.{SlotRecord}
+use Rattle.fnc_records.specs.KeptOperation.{KeptOperation}
+use Rattle.fnc_records.specs.SlotFacts.{BothOr, last_of}
+use Rattle.fnc_records.specs.OperationRecords.{is_idle, standing_slot}
+use Rattle.fnc_records.specs.OperationFacts.{IsOperation}
 use Rattle.fnc_ops.proofs.AliveCounts.{one_if}
-use Rattle.fnc_ops.proofs.OperationAnswers.{IsShortSlot, standing_slot_is}
-use Rattle.fnc_ops.proofs.StandingSlots.{standing-open}
+use Rattle.fnc_records.proofs.OperationAnswers.{IsShortSlot, standing_slot_is}
+use Rattle.fnc_records.proofs.StandingSlots.{standing-open}
 use Rattle.fnc_ops.proofs.Turns.{counted}
 
 -- where no answer is due the total is not over

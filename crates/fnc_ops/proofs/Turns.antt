@@ -10,10 +10,10 @@ use Rattle.fnc_journal.specs.Same.{same_slot}
 use Rattle.fnc_journal.specs.Slots.{Task, time}
 use Rattle.fnc_journal.specs.Acts.{Act, begun_at, end, limit, is_below, runs, failed, has_succeeded}
 use Rattle.fnc_journal.proofs.AliveRuns.{slot_same}
-use Rattle.fnc_ops.specs.declared.slot.LastRun.{LastRun}
-use Rattle.fnc_ops.specs.SlotFacts.{last_of}
-use Rattle.fnc_ops.specs.OperationRecords.{is_idle}
-use Rattle.fnc_ops.specs.OperationFacts.{ArePast, AreInTurn}
+use Rattle.fnc_records.specs.declared.slot.LastRun.{LastRun}
+use Rattle.fnc_records.specs.SlotFacts.{last_of}
+use Rattle.fnc_records.specs.OperationRecords.{is_idle}
+use Rattle.fnc_records.specs.OperationFacts.{ArePast, AreInTurn}
 use Rattle.fnc_ops.proofs.AliveCounts.{one_if}
 
 some-earlier : (x y : Option ℕ) → is_some x ≡ true → is_some (or_here x y) ≡ true

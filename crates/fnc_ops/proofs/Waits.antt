@@ -7,11 +7,11 @@ use Rattle.fnc_journal.specs.declared.entry.Exit.{Exit}
 use Rattle.fnc_journal.specs.declared.entry.Slot.{Slot}
 use Rattle.fnc_journal.specs.declared.event.Ended.{Ended}
 use Rattle.fnc_journal.specs.declared.event.Start.{Start}
-use Rattle.fnc_ops.specs.declared.slot.SlotRecord.{SlotRecord}
-use Rattle.fnc_ops.specs.KeptOperation.{KeptOperation}
-use Rattle.fnc_ops.specs.OperationRecords as OperationRecords
-use Rattle.fnc_ops.specs.LevelRecords.{level_ended}
-use Rattle.fnc_ops.specs.OperationRecords.{only, started_at, operation_confirmed, operation_ended, is_waiting}
+use Rattle.fnc_records.specs.declared.slot.SlotRecord.{SlotRecord}
+use Rattle.fnc_records.specs.KeptOperation.{KeptOperation}
+use Rattle.fnc_records.specs.OperationRecords as OperationRecords
+use Rattle.fnc_records.specs.LevelRecords.{level_ended}
+use Rattle.fnc_records.specs.OperationRecords.{only, started_at, operation_confirmed, operation_ended, is_waiting}
 use Rattle.fnc_ops.specs.OpsRecords.{is_of, waiting, ended}
 use Rattle.fnc_ops.specs.Stands.{AreAt}
 use Rattle.fnc_ops.proofs.StandsExits.{moment-ranked, req-ranked}

@@ -10,12 +10,12 @@ use Rattle.fnc_journal.specs.Plan.{Wanted}
 use Rattle.fnc_journal.specs.Device.{Device, delay}
 use Rattle.fnc_journal.specs.Slots.{Task, Rank, QueriedDevice, Operation, time, tries, act_task, on_task, operation_by}
 use Rattle.fnc_ops.specs.declared.ops.Operation.{Operation as Request}
-use Rattle.fnc_ops.specs.declared.slot.LastRun.{LastRun}
-use Rattle.fnc_ops.specs.declared.slot.SlotRecord.{SlotRecord}
-use Rattle.fnc_ops.specs.SlotRecords.{capped}
-use Rattle.fnc_ops.specs.KeptLevel.{KeptLevel}
-use Rattle.fnc_ops.specs.KeptOperation.{KeptOperation}
-use Rattle.fnc_ops.specs.OperationRecords.{ranked_if_queried}
+use Rattle.fnc_records.specs.declared.slot.LastRun.{LastRun}
+use Rattle.fnc_records.specs.declared.slot.SlotRecord.{SlotRecord}
+use Rattle.fnc_records.specs.SlotRecords.{capped}
+use Rattle.fnc_records.specs.KeptLevel.{KeptLevel}
+use Rattle.fnc_records.specs.KeptOperation.{KeptOperation}
+use Rattle.fnc_records.specs.OperationRecords.{ranked_if_queried}
 
 -- the record of a slot, for a target and with a coin
 abbrev pub fresh_slot : List ℕ → ℕ → Task → SlotRecord

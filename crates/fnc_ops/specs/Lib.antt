@@ -1,12 +1,4 @@
-pub mod SlotRecords
-pub mod SlotFacts
-pub mod KeptLevel
-pub mod LevelRecords
-pub mod LevelFacts
-pub mod KeptOperation
 pub mod Kept
-pub mod OperationRecords
-pub mod OperationFacts
 pub mod FreshRecords
 pub mod OpsRecords
 pub mod Stands

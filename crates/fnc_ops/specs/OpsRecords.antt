@@ -1,13 +1,13 @@
 -- What the records of all operations say.
-use Rattle.std.specs.Prelude.{ℕ, List, [], ◌∷◌, Bool, ◌==◌, find, Option, Some, None, option_and_then, map, filter, if◌then◌else◌, nat_lt, option_map, ◌+◌, ◌≡◌, false, ◌*◌, length}
+use Rattle.std.specs.Prelude.{ℕ, List, [], ◌∷◌, Bool, ◌==◌, find, Option, Some, None, option_and_then, map, filter, if◌then◌else◌, nat_lt, option_map, ◌+◌, ◌≡◌, false}
 use Rattle.std.specs.Option.{option_or}
 use Rattle.fnc_journal.specs.declared.entry.Answer.{Answer}
-use Rattle.fnc_ops.specs.declared.operation.Standing.{Standing}
+use Rattle.fnc_records.specs.declared.operation.Standing.{Standing}
 use Rattle.fnc_ops.specs.declared.ops.Due.{Due}
-use Rattle.fnc_ops.specs.KeptOperation.{KeptOperation}
+use Rattle.fnc_records.specs.KeptOperation.{KeptOperation}
 use Rattle.fnc_ops.specs.Kept.{Kept}
-use Rattle.fnc_ops.specs.SlotRecords.{capped}
-use Rattle.fnc_ops.specs.OperationRecords as OperationRecords
+use Rattle.fnc_records.specs.SlotRecords.{capped}
+use Rattle.fnc_records.specs.OperationRecords as OperationRecords
 use Rattle.fnc_journal.specs.declared.event.Ended.{Ended}
 use Rattle.fnc_journal.specs.declared.event.Start.{Start}
 use Rattle.fnc_journal.specs.declared.entry.Req.{Req}
@@ -104,19 +104,15 @@ moved (Some req) m os = map (OperationRecords.only req.0 (OperationRecords.at_mo
 abbrev pub joinable : Kind → List ℕ → List KeptOperation → Option Req
 joinable kind target os = option_map (λ (o : KeptOperation). record { 0 = o.req }) (find (OperationRecords.is_joinable kind target) os)
 
--- what an operation owes: a reply to each request that waits, and a start and an exit for each try that was not started
-abbrev pub owed_by : KeptOperation → ℕ
-owed_by o = length o.members + 2 * o.untried
-
 -- what all of them owe
 abbrev pub owed_by_all : List KeptOperation → ℕ
 owed_by_all [] = 0
-owed_by_all (o ∷ os) = owed_by o + owed_by_all os
+owed_by_all (o ∷ os) = OperationRecords.owed_by o + owed_by_all os
 
 -- a number with what they owe, as far as it fits
 abbrev pub owed_with : ℕ → List KeptOperation → ℕ
 owed_with n [] = n
-owed_with n (o ∷ os) = owed_with (capped 64 (n + capped 64 (owed_by o))) os
+owed_with n (o ∷ os) = owed_with (capped 64 (n + capped 64 (OperationRecords.owed_by o))) os
 
 -- with an exit for each run that is alive
 abbrev pub owed : Kept → ℕ

@@ -11,7 +11,7 @@ use Rattle.fnc_journal.specs.Device.{Device, allowed}
 use Rattle.fnc_journal.specs.History.{History}
 use Rattle.fnc_journal.specs.Slots.{acting, device_of, place_of, is_levelled}
 use Rattle.fnc_ops.specs.FreshRecords.{splits}
-use Rattle.fnc_ops.specs.SlotRecords.{capped}
+use Rattle.fnc_records.specs.SlotRecords.{capped}
 
 -- a number with these added
 abbrev pub sum_from : ℕ → List ℕ → ℕ

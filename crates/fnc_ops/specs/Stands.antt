@@ -21,17 +21,17 @@ use Rattle.fnc_journal.specs.Due.{is_confirmed}
 use Rattle.fnc_journal.specs.Owed.{untried}
 use Rattle.fnc_journal.specs.Startable.{alive_runs}
 use Rattle.fnc_journal.specs.Operations.{open_operations, unanswered, stands_at, due_to}
-use Rattle.fnc_ops.specs.declared.operation.Standing.{Standing}
+use Rattle.fnc_records.specs.declared.operation.Standing.{Standing}
 use Rattle.fnc_ops.specs.declared.ops.Due.{Due}
 use Rattle.fnc_ops.specs.declared.ops.Operation.{Operation as Begun}
-use Rattle.fnc_ops.specs.KeptOperation.{KeptOperation}
+use Rattle.fnc_records.specs.KeptOperation.{KeptOperation}
 use Rattle.fnc_ops.specs.Kept.{Kept}
-use Rattle.fnc_ops.specs.OperationFacts.{IsOperation, IsStanding, left_levels}
-use Rattle.fnc_ops.specs.SlotFacts.{BothOr}
+use Rattle.fnc_records.specs.OperationFacts.{IsOperation, IsStanding, left_levels}
+use Rattle.fnc_records.specs.SlotFacts.{BothOr}
 use Rattle.fnc_journal.specs.declared.entry.Exit.{Exit}
 use Rattle.fnc_journal.specs.declared.entry.Answer.{Answer}
 use Rattle.fnc_journal.specs.Missing.{first_of}
-use Rattle.fnc_ops.specs.SlotRecords.{come_by}
+use Rattle.fnc_records.specs.SlotRecords.{come_by}
 
 -- the numbers of requests
 abbrev pub numbers : List Req → List ℕ

@@ -6,11 +6,9 @@ ghost use Rattle.fnc_journal.specs.Slots as Slots;
 ghost use Rattle.fnc_ops.specs.FreshRecords as FreshRecords;
 
 use crate::fresh::fresh_levels;
-use crate::level::LevelRecord;
-use crate::operation::OperationRecord;
 use crate::ops::Operation;
-use crate::slot::SlotRecord;
 use fnc_journal::{Journal, NoMemory, Plan, Scope};
+use fnc_records::{LevelRecord, OperationRecord, SlotRecord};
 use std::alloc::Global;
 
 /// Whether levels are tried, and not candidates.

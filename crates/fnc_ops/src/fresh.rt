@@ -7,13 +7,12 @@ ghost use Rattle.fnc_journal.specs.Missing.{append_some};
 ghost use Rattle.fnc_journal.specs.Slots as Slots;
 ghost use Rattle.fnc_ops.specs.FreshRecords as FreshRecords;
 
-use crate::level::LevelRecord;
 use crate::ops::Operation;
-use crate::slot::{LastRun, SlotRecord};
 use fnc_journal::{
     Candidate, Definition, Journal, Kind, NoMemory, Phase, Plan, PlanLevel, Reg, Req, Scope, Slot,
     Text,
 };
+use fnc_records::{LastRun, LevelRecord, SlotRecord};
 use std::alloc::Global;
 
 /// A device: its registration, and what that was made with.
@@ -36,16 +35,6 @@ pub(crate) fn device_of<'a>(journal: &'a Journal, reg: Reg) -> Option<Device<'a>
     }
 }
 
-/// Whether a device has what a level wants of it.
-fn is_fit(kind: Kind, definition: &Definition) -> bool
-    ensures { result ≡ Slots.is_fit kind definition.now }
-{
-    match kind {
-        Kind::On => definition.actions.on,
-        _ => true,
-    }
-}
-
 /// The device at a place, where it is there and fit.
 pub(crate) fn fit_device<'a>(
     journal: &'a Journal,
@@ -59,7 +48,7 @@ pub(crate) fn fit_device<'a>(
         Some(reg) => match device_of(journal, reg) {
             None => None,
             Some(device) => {
-                if is_fit(kind, device.definition) {
+                if device.definition.is_fit(kind) {
                     Some(device)
                 } else {
                     None
@@ -111,20 +100,6 @@ fn fresh_slot(operation: &Operation, slot: Slot, kind: Kind, device: Device) -> 
     }
 }
 
-/// What is run where an action is wanted: a device without reboot is switched off.
-pub(crate) fn acting(kind: Kind, definition: &Definition) -> Kind
-    ensures { result ≡ Slots.acting kind definition.now }
-{
-    match kind {
-        Kind::Reboot => if definition.actions.reboot {
-            Kind::Reboot
-        } else {
-            Kind::Off
-        },
-        _ => kind,
-    }
-}
-
 /// The Act slot of a device, or its Off slot where the action is split.
 fn act_slot(operation: &Operation, split: bool, level: u8, place: u8, device: Device) -> SlotRecord
     ensures { result ≡ FreshRecords.fresh_slot operation.now.target operation.now.coin
@@ -133,7 +108,7 @@ fn act_slot(operation: &Operation, split: bool, level: u8, place: u8, device: De
     let (phase, kind) = if split {
         (Phase::Off, Kind::Off)
     } else {
-        (Phase::Act, acting(operation.kind, device.definition))
+        (Phase::Act, device.definition.acting(operation.kind))
     };
     let slot = Slot {
         phase,

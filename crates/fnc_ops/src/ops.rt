@@ -4,7 +4,7 @@ ghost use Rattle.std.specs.Prelude.{◌≡◌, ◌∷◌, [], ◌<◌, ◌≤◌
 ghost use Rattle.std.specs.Option.{option_copied};
 ghost use Rattle.fnc_journal.specs.History.{History};
 ghost use Rattle.fnc_journal.specs.Operations as Operations;
-ghost use Rattle.fnc_ops.specs.OperationRecords as OperationRecords;
+ghost use Rattle.fnc_records.specs.OperationRecords as OperationRecords;
 ghost use Rattle.fnc_ops.specs.OpsRecords as OpsRecords;
 ghost use Rattle.fnc_ops.specs.Stands.{StandsFor, AreAt, AreBy, AreBounded, AreFewDevices, first_ended, IsStandingOf, IsTryOf, Try, AwaitsTry, IsFirstDue, behind, ask_entry, begun_request, start_entry, exit_entry, reply_entry, confirm_entry, next_of};
 ghost use Rattle.fnc_ops.specs.OpsRecords.{OthersWait, AllWait};
@@ -18,7 +18,6 @@ ghost use Rattle.fnc_journal.specs.Lawful.{Lawful};
 ghost use Rattle.fnc_journal.specs.Startable.{is_alive};
 
 use crate::begin::fresh_operation;
-use crate::operation::{OperationRecord, Standing};
 use crate::records::{
     first_due, first_expired, first_member, join, joinable, keep_waiting, owed_with, see_confirm,
     see_exit, see_moment, see_moment_of, see_reply, see_start, standing_of, waiting_of,
@@ -26,6 +25,7 @@ use crate::records::{
 use fnc_journal::{
     Answer, Confirmation, Ended, Journal, Kind, NoMemory, Plan, Req, Request, Start, Text,
 };
+use fnc_records::{OperationRecord, Standing};
 use std::alloc::Global;
 use std::marker::Model;
 

@@ -8,7 +8,7 @@ ghost use Rattle.fnc_ops.specs.PlanTries as PlanTries;
 ghost use Rattle.fnc_ops.specs.Stands.{AreBounded, AreFewDevices};
 
 use crate::begin::is_levelled;
-use crate::fresh::{acting, device_of, fit_device, is_unfit, splits};
+use crate::fresh::{device_of, fit_device, is_unfit, splits};
 use fnc_journal::{Candidate, Definition, Journal, Kind, Plan, PlanLevel, Reg};
 
 /// The tries of an action on a device.
@@ -25,7 +25,7 @@ fn first_tries(definition: &Definition, kind: Kind, split: bool) -> u32
     if split {
         action_tries(definition, Kind::Off)
     } else {
-        action_tries(definition, acting(kind, definition))
+        action_tries(definition, definition.acting(kind))
     }
 }
 

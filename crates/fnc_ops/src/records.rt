@@ -2,12 +2,12 @@
 
 ghost use Rattle.std.specs.Prelude.{◌≡◌, map, find, filter, position, OnOk, OnErr};
 ghost use Rattle.std.specs.Option.{option_copied};
-ghost use Rattle.fnc_ops.specs.OperationRecords as OperationRecords;
+ghost use Rattle.fnc_records.specs.OperationRecords as OperationRecords;
 ghost use Rattle.fnc_ops.specs.OpsRecords as OpsRecords;
 
-use crate::operation::{OperationRecord, Standing};
 use crate::ops::Due;
 use fnc_journal::{Exit, Kind, NoMemory, Req, Slot};
+use fnc_records::{OperationRecord, Standing};
 
 /// An operation whose standing slot has come to its action's end.
 #[derive(Clone, Copy, Debug)]

@@ -3,7 +3,7 @@ use Rattle.std.proofs.Common.{◌≡◌, ◌∙◌, sym, ap, map, true, false, s
 use Rattle.std.specs.Prelude.{is_none, IfOk}
 use Rattle.std.specs.List.{list_any}
 use Rattle.fnc_journal.specs.Slots.{place_of}
-use Rattle.fnc_ops.specs.KeptLevel.{KeptLevel}
+use Rattle.fnc_records.specs.KeptLevel.{KeptLevel}
 use Rattle.fnc_ops.specs.FreshRecords.{fit_level}
 use Rattle.fnc_ops.proofs.FreshLevels.{any-map, level-unfit, level-fit}
 use Rattle.fnc_ops.proofs.fresh.fresh_level.Goals as goal

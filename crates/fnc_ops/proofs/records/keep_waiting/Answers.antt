@@ -1,7 +1,7 @@
 -- What is kept is what the test keeps.
 use Rattle.std.proofs.Common.{rules}
 use Rattle.std.proofs.lemmas.List.Elements.{filter_from_retain}
-use Rattle.fnc_ops.specs.OperationRecords.{is_waiting}
+use Rattle.fnc_records.specs.OperationRecords.{is_waiting}
 use Rattle.fnc_ops.proofs.records.keep_waiting.Goals as goal
 
 pub returns : goal.returns

@@ -1,5 +1,5 @@
 use Rattle.std.proofs.Common.{◌≡◌, ◌++◌, map, take, drop}
-use Rattle.fnc_ops.specs.OperationRecords.{only, operation_ended}
+use Rattle.fnc_records.specs.OperationRecords.{only, operation_ended}
 use Rattle.fnc_ops.proofs.records.see_exit.Given as goal
 
 -- the operations so far have seen it

@@ -1,5 +1,5 @@
 use Rattle.std.proofs.Common.{◌≡◌, ◌++◌, map, take, drop}
-use Rattle.fnc_ops.specs.OperationRecords.{at_moment}
+use Rattle.fnc_records.specs.OperationRecords.{at_moment}
 use Rattle.fnc_ops.proofs.records.see_moment.Given as goal
 
 -- the operations so far have seen it

@@ -2,7 +2,7 @@
 use Rattle.std.proofs.Common.{◌<◌, ap, ◌∙◌, set, length, arith}
 use Rattle.std.proofs.lemmas.List.Edits.{map_over_more}
 use Rattle.std.proofs.lemmas.List.{get_or_default}
-use Rattle.fnc_ops.specs.OperationRecords.{only, at_moment}
+use Rattle.fnc_records.specs.OperationRecords.{only, at_moment}
 use Rattle.fnc_ops.proofs.records.see_moment_of.Goals as goal
 
 pub loop-record-preserved : goal.loop-record-preserved

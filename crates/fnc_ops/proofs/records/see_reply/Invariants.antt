@@ -1,5 +1,5 @@
 use Rattle.std.proofs.Common.{◌≡◌, ◌++◌, map, take, drop}
-use Rattle.fnc_ops.specs.OperationRecords.{only, replied}
+use Rattle.fnc_records.specs.OperationRecords.{only, replied}
 use Rattle.fnc_ops.proofs.records.see_reply.Given as goal
 
 -- the operations so far have seen it

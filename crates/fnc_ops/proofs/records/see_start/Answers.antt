@@ -2,7 +2,7 @@
 use Rattle.std.proofs.Common.{◌<◌, ap, ◌∙◌, set, length, arith}
 use Rattle.std.proofs.lemmas.List.Edits.{map_over_more}
 use Rattle.std.proofs.lemmas.List.{get_or_default}
-use Rattle.fnc_ops.specs.OperationRecords.{only, start_standing}
+use Rattle.fnc_records.specs.OperationRecords.{only, start_standing}
 use Rattle.fnc_ops.proofs.records.see_start.Goals as goal
 
 pub loop-record-preserved : goal.loop-record-preserved

@@ -4,8 +4,8 @@ use Rattle.std.specs.Prelude.{IsNone}
 use Rattle.std.specs.Option.{option_copied}
 use Rattle.fnc_journal.specs.Startable.{first}
 use Rattle.fnc_queue.specs.Places.{first_of}
-use Rattle.fnc_ops.specs.declared.operation.Standing.{Standing}
-use Rattle.fnc_ops.specs.SlotFacts.{BothOr}
+use Rattle.fnc_records.specs.declared.operation.Standing.{Standing}
+use Rattle.fnc_records.specs.SlotFacts.{BothOr}
 use Rattle.fnc_ops.specs.Stands.{IsTry}
 use Rattle.fnc_core.specs.declared.change.Started.{Started}
 use Rattle.fnc_core.specs.Between.{Rests, IsNextStart}

@@ -3,7 +3,7 @@ use Rattle.std.proofs.Common.{◌≡◌, ◌∷◌, ◌++◌, [], sym, subst}
 use Rattle.std.specs.Prelude.{OnOk}
 use Rattle.std.proofs.lemmas.Result.{on_ok_weaker}
 use Rattle.fnc_ops.specs.Kept.{Kept}
-use Rattle.fnc_ops.specs.KeptOperation.{KeptOperation}
+use Rattle.fnc_records.specs.KeptOperation.{KeptOperation}
 use Rattle.fnc_ops.specs.Stands.{StandsFor, ask_entry, begun_request}
 use Rattle.fnc_ops.proofs.StandsBegins.{stands-begun, others-wait-ever}
 use Rattle.fnc_ops.proofs.ops.Ops.begin.Goals as goal

@@ -1,7 +1,7 @@
 -- The records stand for the journal with the operator's word.
 use Rattle.std.proofs.Common.{ℕ, List, map, ◌∷◌, ◌∙◌, ap, sym, subst}
 use Rattle.fnc_ops.specs.Kept.{Kept}
-use Rattle.fnc_ops.specs.OperationRecords.{operation_confirmed}
+use Rattle.fnc_records.specs.OperationRecords.{operation_confirmed}
 use Rattle.fnc_ops.specs.OpsRecords.{waiting}
 use Rattle.fnc_ops.specs.Stands.{StandsFor, AreAt, confirm_entry}
 use Rattle.fnc_ops.proofs.StandsSteps.{stands-confirmed}

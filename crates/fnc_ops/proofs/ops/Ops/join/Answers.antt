@@ -9,7 +9,7 @@ use Rattle.fnc_journal.specs.History.{History}
 use Rattle.fnc_journal.specs.Lawful.{Lawful}
 use Rattle.fnc_journal.specs.Operations.{is_open}
 use Rattle.fnc_ops.specs.Kept.{Kept}
-use Rattle.fnc_ops.specs.KeptOperation.{KeptOperation}
+use Rattle.fnc_records.specs.KeptOperation.{KeptOperation}
 use Rattle.fnc_ops.specs.OpsRecords.{joined, waiting, AllWait}
 use Rattle.fnc_ops.specs.Stands.{StandsFor, StandEach, AreAt, ask_entry}
 use Rattle.fnc_ops.proofs.StandsJoined.{stands-joined, waiting-joined, at-joined}

@@ -6,12 +6,12 @@ use Rattle.fnc_journal.specs.History.{History}
 use Rattle.fnc_journal.specs.Owed.{owed}
 use Rattle.fnc_journal.specs.Startable.{alive_runs}
 use Rattle.fnc_ops.specs.Kept.{Kept}
-use Rattle.fnc_ops.specs.OperationRecords.{only, standing_slot, start_standing}
+use Rattle.fnc_records.specs.OperationRecords.{only, standing_slot, start_standing}
 use Rattle.fnc_ops.specs.OpsRecords.{waiting}
-use Rattle.fnc_ops.specs.SlotRecords.{capped}
+use Rattle.fnc_records.specs.SlotRecords.{capped}
 use Rattle.fnc_ops.specs.Stands.{StandsFor, StandEach, AreAt, Try, AwaitsTry, start_entry, of_try}
 use Rattle.fnc_ops.proofs.AliveCounts.{alive-started, alive-few}
-use Rattle.fnc_ops.proofs.SlotSteps.{capped_32}
+use Rattle.fnc_records.proofs.SlotSteps.{capped_32}
 use Rattle.fnc_ops.proofs.StandsOwed.{owed-started}
 use Rattle.fnc_ops.proofs.StandsSteps.{stands-started}
 use Rattle.fnc_ops.proofs.Starts.{at-started, each-awaits, settled-started, waits-started}
