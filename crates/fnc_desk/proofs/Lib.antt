@@ -5,8 +5,7 @@ pub mod Replied
 pub mod Entering
 pub mod Counting
 pub mod Given
-pub mod Pieces
+pub mod StartLine
 pub mod Naming
-pub mod Escapes
 pub mod Lines
 pub mod Tallies

@@ -16,7 +16,7 @@ use Rattle.fnc_journal.specs.Prefix.{prefix}
 use Rattle.fnc_journal.proofs.Lawfulness.{and-left, and-right, in_order-of}
 use Rattle.fnc_journal.proofs.Prefixes.{prefix-all}
 use Rattle.fnc_journal.proofs.Requests.{fresh_ask}
-use Rattle.fnc_desk.proofs.Pieces.{part-of_front}
+use Rattle.fnc_printing.proofs.Pieces.{part-of_front}
 
 -- the target of what was found under a number
 abbrev target_in : Option Request → Option (List ℕ)

@@ -5,5 +5,4 @@ pub mod Inputs
 pub mod Reading
 pub mod Entered
 pub mod Lines
-pub mod Printed
 pub mod Tallied

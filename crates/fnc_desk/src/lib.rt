@@ -8,7 +8,6 @@ mod input;
 mod line;
 mod output;
 mod plain;
-mod printing;
 mod tally;
 #[cfg(test)]
 mod tests;

@@ -7,7 +7,7 @@ use Rattle.fnc_journal.specs.declared.definition.Definition.{Definition}
 use Rattle.fnc_journal.specs.declared.entry.Entry.{Entry}
 use Rattle.fnc_journal.specs.declared.event.Event.{Event}
 use Rattle.fnc_journal.specs.Bounds.{IsBounded, is_allowed, is_base, is_cap, is_carrier, is_host, is_host_pair, is_own_option, is_priority, is_time}
-use Rattle.fnc_journal_text.specs.Within as Within
+use Rattle.fnc_journal_reader.specs.Within as Within
 use Rattle.fnc_core.specs.Between.{IsBoundedEvent}
 
 bounded : (d : Definition) → Within.is_bounded d ≡ true → IsBounded d

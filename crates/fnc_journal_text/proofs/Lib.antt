@@ -1,15 +1,5 @@
-pub mod Pieces
+-- Proved here: what is printed of an entry, part by part and list by list, is its spelling, or a part from the front of it
+-- where a write failed.
 pub mod Listing
 pub mod ActionWords
-pub mod Escapes
 pub mod Lines
-pub mod Cutting
-pub mod Reading
-pub mod CharacterBytes
-pub mod Spellings
-pub mod Splits
-pub mod ValuesBack
-pub mod ListsBack
-pub mod EntriesBack
-pub mod Answering
-pub mod TypedBack

@@ -1,10 +1,3 @@
-pub mod Printed
 pub mod Spelled
 pub mod Parts
 pub mod Paper
-pub mod Reads
-pub mod Cuts
-pub mod Values
-pub mod Entries
-pub mod Within
-pub mod Typed

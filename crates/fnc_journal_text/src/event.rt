@@ -10,7 +10,6 @@ ghost use Rattle.fnc_journal_text.specs.Spelled.{spaced, start_words, words_of};
 
 use crate::definition::print_device;
 use crate::parts::{Part, print_parts};
-use crate::printing::{Piece, print_pieces};
 use crate::words::{
     answer_piece, answer_word, exit_piece, flag_word, phase_word, target_text, target_word,
 };
@@ -19,6 +18,7 @@ use fnc_journal::{
     Start,
 };
 use fnc_outside::{Sink, SinkFailed};
+use fnc_printing::{Piece, print_pieces};
 
 /// Prints the words of an event, a space before each.
 pub(crate) fn print_event<K: Sink>(event: &Event, sink: &mut K) -> Result<(), SinkFailed>

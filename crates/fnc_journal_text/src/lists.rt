@@ -6,10 +6,10 @@ ghost use Rattle.fnc_outside.specs.Told.{Gains};
 ghost use Rattle.fnc_outside.specs.Writes.{AppendsPart};
 ghost use Rattle.fnc_journal_text.specs.Spelled.{names_text, map_text, delays_text, parameters_text, own_text};
 
-use crate::printing::{Piece, print_pieces};
 use crate::words::flag_word;
 use fnc_journal::{Delay, Pair, Parameter, Text};
 use fnc_outside::{Sink, SinkFailed};
+use fnc_printing::{Piece, print_pieces};
 
 /// Writes names separated by commas.
 pub(crate) fn print_names<K: Sink>(names: &[Text], sink: &mut K) -> Result<(), SinkFailed>

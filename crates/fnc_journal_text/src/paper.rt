@@ -10,9 +10,9 @@ ghost use Rattle.fnc_journal_text.specs.Spelled.{line_of};
 
 use crate::event::print_event;
 use crate::form::Form;
-use crate::printing::{Piece, print_pieces};
 use fnc_journal::{Entry, Journal};
 use fnc_outside::{Sink, SinkFailed};
+use fnc_printing::{Piece, print_pieces};
 
 /// The first line of a journal's text, without its line feed.
 pub fn head_line() -> &'static str
@@ -34,8 +34,8 @@ pub fn print_head<K: Sink>(form: Form, sink: &mut K) -> Result<(), SinkFailed>
     }
 }
 
-/// Prints the spelling of an entry, without the line feed.
-pub(crate) fn print_spelling<K: Sink>(entry: &Entry, sink: &mut K) -> Result<(), SinkFailed>
+/// Prints the spelling of an entry, without the line feed. Where a write fails a part from the front of it was printed.
+pub fn print_spelling<K: Sink>(entry: &Entry, sink: &mut K) -> Result<(), SinkFailed>
     ensures ok { OnOk result (Gains (K.held sink.old) (K.held sink.new) (line_of entry.now)) }
     ensures err { OnErr result (AppendsPart (K.held sink.old) (K.held sink.new) (line_of entry.now)) }
     ensures count { K.faults sink.old ≤ K.faults sink.new }

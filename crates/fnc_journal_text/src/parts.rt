@@ -8,10 +8,10 @@ ghost use Rattle.fnc_journal_text.specs.Parts.{part_text, parts_text};
 ghost use Rattle.fnc_journal_text.specs.Spelled.{allowed_text};
 
 use crate::lists::{print_delays, print_map, print_names, print_own, print_parameters};
-use crate::printing::{Piece, print_piece, print_pieces};
 use crate::words::{actions_pieces, cap_piece, scope_pieces, text_piece};
 use fnc_journal::{Actions, Allowed, Delay, Pair, Parameter, Scope, Text};
 use fnc_outside::{Sink, SinkFailed};
+use fnc_printing::{Piece, print_piece, print_pieces};
 
 /// A part of a line: a piece, a value that is written in several, or a list with what separates its
 /// items.

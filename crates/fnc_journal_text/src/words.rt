@@ -1,11 +1,11 @@
 // The words that stand for cases.
 
 ghost use Rattle.std.specs.Prelude.{◌≡◌, ◌&&◌, ◌||◌, [], if◌then◌else◌, codes};
-ghost use Rattle.fnc_journal_text.specs.Printed.{piece_text, pieces_text};
+ghost use Rattle.fnc_printing.specs.Printed.{piece_text, pieces_text};
 ghost use Rattle.fnc_journal_text.specs.Spelled as Spelled;
 
-use crate::printing::Piece;
 use fnc_journal::{Actions, Answer, Exit, HostCheck, LevelTarget, Phase, Scope, Text};
+use fnc_printing::Piece;
 
 /// The word of yes or no.
 pub(crate) fn flag_word(flag: bool) -> &'static str
@@ -15,7 +15,7 @@ pub(crate) fn flag_word(flag: bool) -> &'static str
 }
 
 /// The word of a phase.
-pub(crate) fn phase_word(phase: Phase) -> &'static str
+pub fn phase_word(phase: Phase) -> &'static str
     ensures { result.now ≡ Spelled.phase_word phase }
 {
     match phase {
@@ -27,7 +27,7 @@ pub(crate) fn phase_word(phase: Phase) -> &'static str
 }
 
 /// The word of a host check.
-pub(crate) fn check_word(check: HostCheck) -> &'static str
+pub fn check_word(check: HostCheck) -> &'static str
     ensures { result.now ≡ Spelled.check_word check }
 {
     match check {

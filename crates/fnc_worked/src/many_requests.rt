@@ -2,7 +2,7 @@
 // one device, and are served one after another.
 
 use fnc_journal::Journal;
-use fnc_journal_text::read_entry;
+use fnc_journal_reader::read_entry;
 use fnc_judge::{Verdict, judge};
 use std::alloc::Global;
 use std::test::Fail;

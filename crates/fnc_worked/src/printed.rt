@@ -2,7 +2,8 @@
 // fails leaves the front of a line.
 
 use fnc_journal::{Answer, Entry, Event, Reply, Req};
-use fnc_journal_text::{EntryFault, Form, print_head, print_one, read_entry};
+use fnc_journal_reader::{EntryFault, read_entry};
+use fnc_journal_text::{Form, print_head, print_one};
 use fnc_outside::{MemorySink, SinkFailed, Torn};
 use std::alloc::Global;
 use std::process::Abort;

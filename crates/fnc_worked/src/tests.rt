@@ -1,5 +1,6 @@
 use fnc_journal::{Journal, NoMemory, Rule};
-use fnc_journal_text::{print_entry, read_entry};
+use fnc_journal_reader::read_entry;
+use fnc_journal_text::print_entry;
 use fnc_judge::{Verdict, judge};
 use fnc_outside::MemorySink;
 use std::alloc::Global;

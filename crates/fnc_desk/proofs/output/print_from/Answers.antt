@@ -6,7 +6,7 @@ use Rattle.fnc_journal.specs.History.{History}
 use Rattle.fnc_journal.specs.Line.{answers_text}
 use Rattle.fnc_journal.proofs.Prefixes.{prefix-all}
 use Rattle.fnc_desk.proofs.Lines.{text-front, text-more}
-use Rattle.fnc_desk.proofs.Pieces.{on-err}
+use Rattle.fnc_printing.proofs.Pieces.{on-err}
 use Rattle.fnc_desk.proofs.output.print_from.Goals as goal
 
 pub returns-in_err-print_line-clause-err : goal.returns-in_err-print_line-clause-err

@@ -4,7 +4,7 @@ use Rattle.fnc_outside.specs.Writes.{AppendsPart}
 use Rattle.fnc_outside.proofs.Telling.{gains-gains, gains-part}
 use Rattle.fnc_journal_text.specs.Spelled.{limits_words, nodes_words, spaced}
 use Rattle.fnc_journal_text.proofs.Listing.{spaced-append}
-use Rattle.fnc_journal_text.proofs.Pieces.{on-err, on-err-then, on-ok-then, part-of_front}
+use Rattle.fnc_printing.proofs.Pieces.{on-err, on-err-then, on-ok-then, part-of_front}
 use Rattle.fnc_journal_text.proofs.definition.print_device.Goals as goal
 
 pub returns-in_err-print_nodes-clause-err : goal.returns-in_err-print_nodes-clause-err

@@ -1,7 +1,7 @@
 use denote.Shadow.{shadow}
 use denote.Text.{Utf8}
 use Rattle.std.proofs.Common.{◌≤◌, drop, codes}
-use Rattle.fnc_journal_text.specs.Printed.{Progress}
+use Rattle.fnc_printing.specs.Printed.{Progress}
 use Rattle.fnc_journal_text.specs.Spelled.{delay_text, delays_text, listed}
 use Rattle.fnc_journal_text.proofs.lists.print_delays.Given as goal
 

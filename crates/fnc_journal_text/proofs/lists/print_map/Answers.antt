@@ -2,7 +2,7 @@ use lib.Utf8.{encode}
 use Rattle.std.proofs.Common.{[], ◌∷◌, codes, refl, arith}
 use Rattle.fnc_journal_text.specs.Spelled.{port_text}
 use Rattle.fnc_journal_text.proofs.Listing.{listed-next, port-piece}
-use Rattle.fnc_journal_text.proofs.Pieces.{on-err, progress-failed, progress-more}
+use Rattle.fnc_printing.proofs.Pieces.{on-err, progress-failed, progress-more}
 use Rattle.fnc_journal_text.proofs.lists.print_map.Goals as goal
 
 pub returns-in_err-print_pieces-clause-err : goal.returns-in_err-print_pieces-clause-err

@@ -1,7 +1,7 @@
 use denote.Shadow.{shadow}
 use denote.Text.{Utf8}
 use Rattle.std.proofs.Common.{◌≤◌, drop, codes}
-use Rattle.fnc_journal_text.specs.Printed.{Progress}
+use Rattle.fnc_printing.specs.Printed.{Progress}
 use Rattle.fnc_journal_text.specs.Spelled.{listed, map_text, port_text}
 use Rattle.fnc_journal_text.proofs.lists.print_map.Given as goal
 

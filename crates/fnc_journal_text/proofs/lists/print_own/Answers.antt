@@ -1,7 +1,7 @@
 use Rattle.std.proofs.Common.{arith}
 use Rattle.fnc_journal_text.specs.Spelled.{own_word}
 use Rattle.fnc_journal_text.proofs.Listing.{spaced-next, own-piece}
-use Rattle.fnc_journal_text.proofs.Pieces.{on-err, progress-failed, progress-more}
+use Rattle.fnc_printing.proofs.Pieces.{on-err, progress-failed, progress-more}
 use Rattle.fnc_journal_text.proofs.lists.print_own.Goals as goal
 
 pub returns-in_err-print_pieces-clause-err : goal.returns-in_err-print_pieces-clause-err

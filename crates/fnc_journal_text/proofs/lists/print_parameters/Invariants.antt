@@ -1,5 +1,5 @@
 use Rattle.std.proofs.Common.{◌≤◌, drop}
-use Rattle.fnc_journal_text.specs.Printed.{Progress}
+use Rattle.fnc_printing.specs.Printed.{Progress}
 use Rattle.fnc_journal_text.specs.Spelled.{parameters_text}
 use Rattle.fnc_journal_text.proofs.lists.print_parameters.Given as goal
 

@@ -4,7 +4,7 @@ use Rattle.fnc_outside.specs.Told.{Gains}
 use Rattle.fnc_outside.specs.Writes.{AppendsPart}
 use Rattle.fnc_outside.proofs.Telling.{gains-gains}
 use Rattle.fnc_journal_text.proofs.Lines.{line-found, text-more}
-use Rattle.fnc_journal_text.proofs.Pieces.{on-ok-then}
+use Rattle.fnc_printing.proofs.Pieces.{on-ok-then}
 use Rattle.fnc_journal_text.proofs.paper.print_entry.Goals as goal
 
 pub returns-clause-ok : goal.returns-clause-ok

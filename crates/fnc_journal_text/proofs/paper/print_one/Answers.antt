@@ -1,7 +1,7 @@
 use Rattle.std.proofs.Common.{codes}
 use Rattle.fnc_outside.proofs.Telling.{gains-part}
 use Rattle.fnc_journal_text.specs.Spelled.{line_of}
-use Rattle.fnc_journal_text.proofs.Pieces.{on-err-then}
+use Rattle.fnc_printing.proofs.Pieces.{on-err-then}
 use Rattle.fnc_journal_text.proofs.paper.print_one.Goals as goal
 
 pub returns-clause-err : goal.returns-clause-err

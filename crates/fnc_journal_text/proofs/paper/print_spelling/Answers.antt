@@ -1,5 +1,5 @@
 use Rattle.fnc_journal_text.proofs.Lines.{words-cut}
-use Rattle.fnc_journal_text.proofs.Pieces.{on-err-then}
+use Rattle.fnc_printing.proofs.Pieces.{on-err-then}
 use Rattle.fnc_journal_text.proofs.paper.print_spelling.Goals as goal
 
 pub returns-clause-err : goal.returns-clause-err

@@ -1,6 +1,6 @@
 use Rattle.std.proofs.Common.{arith}
 use Rattle.fnc_journal_text.proofs.Listing.{parts-next}
-use Rattle.fnc_journal_text.proofs.Pieces.{on-err, progress-failed, progress-more}
+use Rattle.fnc_printing.proofs.Pieces.{on-err, progress-failed, progress-more}
 use Rattle.fnc_journal_text.proofs.parts.print_parts.Goals as goal
 
 pub returns-in_err-print_part-clause-err : goal.returns-in_err-print_part-clause-err

@@ -1,6 +1,6 @@
 use Rattle.std.proofs.Common.{◌≤◌, drop}
 use Rattle.fnc_journal_text.specs.Parts.{parts_text}
-use Rattle.fnc_journal_text.specs.Printed.{Progress}
+use Rattle.fnc_printing.specs.Printed.{Progress}
 use Rattle.fnc_journal_text.proofs.parts.print_parts.Given as goal
 
 -- the parts so far were written

@@ -1,0 +1,6 @@
+pub mod Within
+pub mod Typed
+pub mod Cuts
+pub mod Reads
+pub mod Values
+pub mod Entries

@@ -1,5 +1,0 @@
-use Rattle.fnc_journal_text.proofs.Cutting.{word-front}
-use Rattle.fnc_journal_text.proofs.cuts.word.Goals as goal
-
-pub returns : goal.returns
-returns c = word-front c.rest.result.now c.args.line.now c.front.result.now c.args.index c.front.ensures c.rest.ensures
