@@ -1,12 +1,48 @@
 -- The slots of levels whose numbers rise are distinct, and so are those of candidates as levels.
-use Rattle.std.proofs.Common.{ℕ, List, [], ◌∷◌, ◌++◌, Bool, true, false, ◌≡◌, ◌≤◌, ◌+◌, ◌==◌, ◌&&◌, refl, sym, subst, Option, Some, None, cond, arith, ne_eqb}
+use Rattle.std.proofs.Common.{
+  ℕ,
+  List,
+  [],
+  ◌∷◌,
+  ◌++◌,
+  Bool,
+  true,
+  false,
+  ◌≡◌,
+  ◌≤◌,
+  ◌+◌,
+  ◌==◌,
+  ◌&&◌,
+  refl,
+  sym,
+  subst,
+  Option,
+  Some,
+  None,
+  cond,
+  arith,
+  ne_eqb,
+}
 use Rattle.std.specs.List.{AllByRecursion, cons_option}
 use Rattle.fnc_journal.specs.declared.entry.Kind.{Kind}
 use Rattle.fnc_journal.specs.declared.entry.Phase.{Phase}
 use Rattle.fnc_journal.specs.declared.entry.Slot.{Slot}
 use Rattle.fnc_journal.specs.Same.{same_slot, same_phase, phase_place}
 use Rattle.fnc_journal.specs.Device.{Device}
-use Rattle.fnc_journal.specs.Slots.{Task, QueriedDevice, Rank, task, act_task, acts_from, ons_from, fit_devices, is_split, rank, ranked_from, slots_of}
+use Rattle.fnc_journal.specs.Slots.{
+  Task,
+  QueriedDevice,
+  Rank,
+  task,
+  act_task,
+  acts_from,
+  ons_from,
+  fit_devices,
+  is_split,
+  rank,
+  ranked_from,
+  slots_of,
+}
 use Rattle.fnc_journal.proofs.Each.{each-map}
 use Rattle.fnc_records.specs.OperationFacts.{AreDistinct}
 use Rattle.fnc_records.proofs.Searches.{each-joined}

@@ -1,15 +1,56 @@
 -- No moment that is known of an operation gets too great: its beginning and its acts come early, and no slot takes long.
-use Rattle.std.proofs.Common.{ℕ, List, [], ◌∷◌, ◌++◌, Bool, true, false, ◌≡◌, ◌≤◌, ◌<◌, ◌+◌, ◌^◌, ◌==◌, ◌&&◌, ap, Option, Some, None, cond, max, arith}
+use Rattle.std.proofs.Common.{
+  ℕ,
+  List,
+  [],
+  ◌∷◌,
+  ◌++◌,
+  Bool,
+  true,
+  false,
+  ◌≡◌,
+  ◌≤◌,
+  ◌<◌,
+  ◌+◌,
+  ◌^◌,
+  ◌==◌,
+  ◌&&◌,
+  ap,
+  Option,
+  Some,
+  None,
+  cond,
+  max,
+  arith,
+}
 use Rattle.std.proofs.lemmas.Bool.{leb-true}
 use Rattle.std.specs.Prelude.{option_map, option_and_then, unwrap_or}
 use Rattle.std.specs.List.{AllByRecursion}
+use Rattle.fnc_journal.specs.declared.limits.TheConstants.{GREATEST_MOMENT}
 use Rattle.fnc_journal.specs.declared.event.Event.{Event}
 use Rattle.fnc_journal.specs.declared.entry.Slot.{Slot}
 use Rattle.fnc_journal.specs.History.{History}
 use Rattle.fnc_journal.specs.Missing.{or_here, least_of}
 use Rattle.fnc_journal.specs.Found.{Asked, asked, asked_here}
 use Rattle.fnc_journal.specs.Slots.{Task, Operation, Rank, operation_of, queries, slots_of, time}
-use Rattle.fnc_journal.specs.Acts.{Act, acts, act_here, cons_act, slot_of_run, moment_of, begun_at, begun_at_here, end, succeeds_here, fails_here, failed, success_at, last_failure_at, concluded, concluded_at}
+use Rattle.fnc_journal.specs.Acts.{
+  Act,
+  acts,
+  act_here,
+  cons_act,
+  slot_of_run,
+  moment_of,
+  begun_at,
+  begun_at_here,
+  end,
+  succeeds_here,
+  fails_here,
+  failed,
+  success_at,
+  last_failure_at,
+  concluded,
+  concluded_at,
+}
 use Rattle.fnc_journal.specs.Slots.{tries}
 use Rattle.fnc_journal.specs.Standing.{ranks, since, slots, greatest_concluded}
 use Rattle.fnc_journal.specs.Operations.{operation, led}
@@ -111,10 +152,6 @@ module _ (o : Operation) (m : ℕ) (xs : List Act) (k : ℕ) (begins : o.begin �
   since-by : (r : KeptOperation) → IsOperation m xs r o → since o m xs ≤ k + 2 ^ 62
   since-by r h = greatest-by (slots o m xs) (each-joined (IsShort o) (queries o) (slots_of (ranks o m xs)) (queries-short o m xs r h) (levels-each (IsShort o) (ranks o m xs) (ranks-short o m xs r h)))
 
--- no entry of a lawful journal comes after this moment
-abbrev most : ℕ
-most = 1_000_000_000_000_000
-
 acts-more : (o m k : ℕ) (event : Event) (xs : List Act) → m ≤ k → ArePast k xs → ArePast k (cons_act (act_here o m xs event) xs)
 acts-more o m k (Event.Start start) xs le a = go (o == start.req.0)
   where
@@ -128,21 +165,21 @@ acts-more o m k (Event.Exit ended) xs le a = go (slot_of_run ended.run.0 xs)
     go (Some s) = (le, a)
 acts-more o m k _ xs le a = a
 
-acts-early : (h : History) → Lawful h → (o : ℕ) → ArePast most (acts o h)
+acts-early : (h : History) → Lawful h → (o : ℕ) → ArePast GREATEST_MOMENT (acts o h)
 acts-early [] l o = tt
-acts-early (e ∷ before) l o = acts-more o e.moment most e.event (acts o before) (leb-true e.moment most (and-left _ _ (and-left _ _ l.0.ordered))) (acts-early before l.1 o)
+acts-early (e ∷ before) l o = acts-more o e.moment GREATEST_MOMENT e.event (acts o before) (leb-true e.moment GREATEST_MOMENT (and-left _ _ (and-left _ _ l.0.ordered))) (acts-early before l.1 o)
 
 -- a request that is found came early
 abbrev CameEarly : Option Asked → Type 0
 CameEarly None = Unit {0}
-CameEarly (Some a) = a.moment ≤ most
+CameEarly (Some a) = a.moment ≤ GREATEST_MOMENT
 
 asked-more : (x y : Option Asked) → CameEarly x → CameEarly y → CameEarly (or_here x y)
 asked-more x None a b = a
 asked-more None (Some y) a b = b
 asked-more (Some x) (Some y) a b = a
 
-asked-here : (r m : ℕ) (before : History) (event : Event) → m ≤ most → CameEarly (asked_here r m before event)
+asked-here : (r m : ℕ) (before : History) (event : Event) → m ≤ GREATEST_MOMENT → CameEarly (asked_here r m before event)
 asked-here r m before (Event.Ask ask) le = go (r == ask.req.0)
   where
     go : (b : Bool) → CameEarly (cond b (Some (record { moment = m; lead = ask.lead.0; kind = ask.kind; target = ask.target; total = ask.total; coin = ask.coin; scope = ask.scope; before = before })) None)
@@ -154,25 +191,25 @@ asked-early : (h : History) → Lawful h → (r : ℕ) → CameEarly (asked r h)
 asked-early [] l r = tt
 asked-early (e ∷ before) l r =
     asked-more (asked r before) (asked_here r e.moment before e.event) (asked-early before l.1 r)
-    (asked-here r e.moment before e.event (leb-true e.moment most (and-left _ _ (and-left _ _ l.0.ordered))))
+    (asked-here r e.moment before e.event (leb-true e.moment GREATEST_MOMENT (and-left _ _ (and-left _ _ l.0.ordered))))
 
 abbrev begin_or : ℕ → Option Operation → ℕ
 begin_or n None = n
 begin_or n (Some o) = o.begin
 
-begin-early : (h : History) → Lawful h → (r : ℕ) (o : Operation) → operation r h ≡ Some o → o.begin ≤ most
+begin-early : (h : History) → Lawful h → (r : ℕ) (o : Operation) → operation r h ≡ Some o → o.begin ≤ GREATEST_MOMENT
 begin-early h l r o e = go (asked r h) (asked-early h l r) e
   where
-    leads : (b : Bool) (a : Asked) → a.moment ≤ most → cond b (Some (operation_of r a)) None ≡ Some o → o.begin ≤ most
+    leads : (b : Bool) (a : Asked) → a.moment ≤ GREATEST_MOMENT → cond b (Some (operation_of r a)) None ≡ Some o → o.begin ≤ GREATEST_MOMENT
     leads true a le f = let same : a.moment ≡ o.begin = ap (begin_or 0) f in omega (arith, le, same)
     leads false a le f = cc
 
-    go : (a : Option Asked) → CameEarly a → option_and_then (led r) a ≡ Some o → o.begin ≤ most
+    go : (a : Option Asked) → CameEarly a → option_and_then (led r) a ≡ Some o → o.begin ≤ GREATEST_MOMENT
     go None c f = cc
     go (Some a) c f = leads (r == a.lead) a c f
 
 -- since when an operation of a lawful journal stands where it stands
 pub since-early : (h : History) → Lawful h → (m : ℕ) (r : KeptOperation) (o : Operation) → operation o.req h ≡ Some o → IsOperation m (acts o.req h) r o → since o m (acts o.req h) < 2 ^ 63
 since-early h l m r o e i =
-    let least : since o m (acts o.req h) ≤ most + 2 ^ 62 = since-by o m (acts o.req h) most (begin-early h l o.req o e) (acts-early h l o.req) r i in
+    let least : since o m (acts o.req h) ≤ GREATEST_MOMENT + 2 ^ 62 = since-by o m (acts o.req h) GREATEST_MOMENT (begin-early h l o.req o e) (acts-early h l o.req) r i in
     omega (arith, least)

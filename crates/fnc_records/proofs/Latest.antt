@@ -1,5 +1,26 @@
 -- The greatest moment at which a concluded slot was concluded, by its records and by the acts.
-use Rattle.std.proofs.Common.{ℕ, List, [], ◌∷◌, ◌++◌, Bool, true, false, ◌≡◌, ◌≤◌, refl, ap, sym, ◌∙◌, Option, Some, None, cond, max, arith}
+use Rattle.std.proofs.Common.{
+  ℕ,
+  List,
+  [],
+  ◌∷◌,
+  ◌++◌,
+  Bool,
+  true,
+  false,
+  ◌≡◌,
+  ◌≤◌,
+  refl,
+  ap,
+  sym,
+  ◌∙◌,
+  Option,
+  Some,
+  None,
+  cond,
+  max,
+  arith,
+}
 use Rattle.std.specs.List.{AllZip, cons_option}
 use Rattle.fnc_journal.specs.Slots.{Task, Operation, Rank, queries, slots_of}
 use Rattle.fnc_journal.specs.Acts as Acts

@@ -1,8 +1,35 @@
 -- The tries that the records of an operation's slots have left: a start of the standing slot takes one, and nothing adds any.
-use Rattle.std.proofs.Common.{ℕ, List, [], ◌∷◌, Bool, true, false, ◌≡◌, ◌≤◌, ◌<◌, ◌+◌, ◌&&◌, refl, ap, ap₂, sym, ◌∙◌, subst, Option, Some, None, cond, not, arith, map}
+use Rattle.std.proofs.Common.{
+  ℕ,
+  List,
+  [],
+  ◌∷◌,
+  Bool,
+  true,
+  false,
+  ◌≡◌,
+  ◌≤◌,
+  ◌<◌,
+  ◌+◌,
+  ◌&&◌,
+  refl,
+  ap,
+  ap₂,
+  sym,
+  ◌∙◌,
+  subst,
+  Option,
+  Some,
+  None,
+  cond,
+  not,
+  arith,
+  map,
+}
 use Rattle.std.specs.Prelude.{find, option_map, option_and_then}
 use Rattle.std.specs.List.{list_all}
 use Rattle.std.specs.Option.{option_or}
+use Rattle.fnc_journal.specs.declared.limits.TheConstants.{MOST_TRIES}
 use Rattle.fnc_journal.specs.declared.entry.Exit.{Exit}
 use Rattle.fnc_journal.specs.declared.entry.Slot.{Slot}
 use Rattle.fnc_journal.specs.Exits.{is_success}
@@ -12,8 +39,26 @@ use Rattle.fnc_records.specs.declared.slot.LastRun.{LastRun}
 use Rattle.fnc_records.specs.declared.slot.SlotRecord.{SlotRecord}
 use Rattle.fnc_records.specs.KeptLevel.{KeptLevel}
 use Rattle.fnc_records.specs.KeptOperation.{KeptOperation}
-use Rattle.fnc_records.specs.SlotRecords.{at_level, is_concluded, is_in_time, started, started_same, ended, succeeded_now, failed_now}
-use Rattle.fnc_records.specs.LevelRecords.{is_queried, open_of, standing_in, is_capable, ranked, next_rank, level_started, level_ended}
+use Rattle.fnc_records.specs.SlotRecords.{
+  at_level,
+  is_concluded,
+  is_in_time,
+  started,
+  started_same,
+  ended,
+  succeeded_now,
+  failed_now,
+}
+use Rattle.fnc_records.specs.LevelRecords.{
+  is_queried,
+  open_of,
+  standing_in,
+  is_capable,
+  ranked,
+  next_rank,
+  level_started,
+  level_ended,
+}
 use Rattle.fnc_records.specs.OperationRecords.{first_query, is_kept, standing_slot, ranked_levels, ranked_if_queried}
 use Rattle.fnc_records.specs.OperationFacts.{left_of, left_in, left_query, left_level, left_levels}
 
@@ -63,7 +108,7 @@ module _ (s : Slot) (exit : Exit) (listed : Bool) (over m : ℕ) where
 
 -- a slot has a try left
 abbrev pub HasLeft : SlotRecord → Type 0
-HasLeft r = (r.runs < r.tries) × (r.tries ≤ 16)
+HasLeft r = (r.runs < r.tries) × (r.tries ≤ MOST_TRIES)
 
 some_slot : (a b : SlotRecord) → ◌≡◌ {A = Option SlotRecord} (Some a) (Some b) → a ≡ b
 some_slot a b e = cc
@@ -104,7 +149,7 @@ module _ (q : SlotRecord) (has : HasLeft q) (m : ℕ) where
       let same : same_slot q.slot q.slot ≡ true = same_slot-self q.slot in
       let now : left_of (started q.slot m q) ≡ left_of (started_same m q) = ap (λ b. left_of (cond b (started_same m q) q)) same in
       let runs : q.runs < q.tries = has.0 in
-      let few : q.tries ≤ 16 = has.1 in
+      let few : q.tries ≤ MOST_TRIES = has.1 in
       let less : left_of (started_same m q) + 1 ≤ left_of q = omega (arith, runs, few) in
       omega (arith, now, less)
 

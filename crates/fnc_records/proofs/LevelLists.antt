@@ -1,5 +1,23 @@
 -- Searches of an operation's levels go over its queries, and over the levels that are tried.
-use Rattle.std.proofs.Common.{ℕ, List, [], ◌∷◌, Bool, true, false, ◌≡◌, refl, ap, Option, Some, None, cond, not, ◌&&◌, ◌||◌}
+use Rattle.std.proofs.Common.{
+  ℕ,
+  List,
+  [],
+  ◌∷◌,
+  Bool,
+  true,
+  false,
+  ◌≡◌,
+  refl,
+  ap,
+  Option,
+  Some,
+  None,
+  cond,
+  not,
+  ◌&&◌,
+  ◌||◌,
+}
 use Rattle.std.specs.Prelude.{find}
 use Rattle.std.specs.List.{list_any, list_all, cons_option}
 use Rattle.std.specs.Option.{option_or}

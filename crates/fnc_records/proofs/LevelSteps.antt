@@ -1,5 +1,31 @@
 -- A level's record stays what the acts say when a run of its operation starts or ends.
-use Rattle.std.proofs.Common.{ℕ, List, ◌∷◌, Bool, ◌≤◌, ◌<◌, ◌+◌, ◌^◌, Option, Some, None, arith, length, ◌≡◌, true, false, refl, ap, sym, ◌∙◌, subst, cond, not, ◌==◌, false-eqb}
+use Rattle.std.proofs.Common.{
+  ℕ,
+  List,
+  ◌∷◌,
+  Bool,
+  ◌≤◌,
+  ◌<◌,
+  ◌+◌,
+  ◌^◌,
+  Option,
+  Some,
+  None,
+  arith,
+  length,
+  ◌≡◌,
+  true,
+  false,
+  refl,
+  ap,
+  sym,
+  ◌∙◌,
+  subst,
+  cond,
+  not,
+  ◌==◌,
+  false-eqb,
+}
 use Rattle.std.proofs.lemmas.Bool.{or_parts}
 use Rattle.std.specs.Prelude.{option_map}
 use Rattle.std.specs.List.{AllByRecursion}
@@ -9,7 +35,18 @@ use Rattle.fnc_journal.specs.Slots.{Task, Operation, Rank, time}
 use Rattle.fnc_journal.specs.Acts.{Act, runs, failed, concluded}
 use Rattle.fnc_records.specs.declared.slot.SlotRecord.{SlotRecord}
 use Rattle.fnc_records.specs.KeptLevel.{KeptLevel}
-use Rattle.fnc_records.specs.SlotRecords.{capped, started, ended, started_same, ended_same, succeeded_now, failed_now, is_in_time, is_concluded, is_spent}
+use Rattle.fnc_records.specs.SlotRecords.{
+  capped,
+  started,
+  ended,
+  started_same,
+  ended_same,
+  succeeded_now,
+  failed_now,
+  is_in_time,
+  is_concluded,
+  is_spent,
+}
 use Rattle.fnc_records.specs.SlotFacts.{IsSlot, last_of}
 use Rattle.fnc_records.specs.LevelRecords.{level_started, level_ended}
 use Rattle.fnc_records.specs.LevelFacts.{IsShort, IsLevelSlot, IsQuerySlot, IsQuery, IsLevel, AreFew, IsTrying}

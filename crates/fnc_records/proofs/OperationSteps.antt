@@ -1,5 +1,33 @@
 -- An operation's record stays what the acts say when one of its runs starts or ends, and when time passes.
-use Rattle.std.proofs.Common.{ℕ, List, [], ◌∷◌, Bool, true, false, ◌≡◌, ◌≤◌, ◌<◌, ◌^◌, refl, ap, ap₂, sym, ◌∙◌, subst, Option, Some, None, cond, not, ◌&&◌, ◌||◌, ◌==◌, arith, map}
+use Rattle.std.proofs.Common.{
+  ℕ,
+  List,
+  [],
+  ◌∷◌,
+  Bool,
+  true,
+  false,
+  ◌≡◌,
+  ◌≤◌,
+  ◌<◌,
+  ◌^◌,
+  refl,
+  ap,
+  ap₂,
+  sym,
+  ◌∙◌,
+  subst,
+  Option,
+  Some,
+  None,
+  cond,
+  not,
+  ◌&&◌,
+  ◌||◌,
+  ◌==◌,
+  arith,
+  map,
+}
 use Rattle.std.proofs.lemmas.Bool.Decides.{nat_tests}
 use Rattle.std.specs.Prelude.{option_map, filter_map}
 use Rattle.std.specs.List.{list_all, AllZip, AllByRecursion, cons_option}
@@ -9,7 +37,18 @@ use Rattle.fnc_journal.specs.declared.entry.Slot.{Slot}
 use Rattle.fnc_journal.specs.Missing.{has_come}
 use Rattle.fnc_journal.specs.Same.{same_slot, same_phase}
 use Rattle.fnc_journal.specs.Slots.{Task, Operation, QueriedDevice, queries, slots_of, ranked_from, act_task, tries}
-use Rattle.fnc_journal.specs.Acts.{Act, moment_of, is_query_phase, concluded, spent, failed, has_succeeded, end, limit, is_below}
+use Rattle.fnc_journal.specs.Acts.{
+  Act,
+  moment_of,
+  is_query_phase,
+  concluded,
+  spent,
+  failed,
+  has_succeeded,
+  end,
+  limit,
+  is_below,
+}
 use Rattle.fnc_journal.specs.Standing.{capable, ranks, queries_concluded}
 use Rattle.fnc_journal.proofs.Each.{each-map}
 use Rattle.fnc_journal.proofs.SlotLemmas.{same-begun, same-ended_other}
@@ -22,10 +61,38 @@ use Rattle.fnc_records.specs.SlotRecords.{at_level, started, ended}
 use Rattle.fnc_records.specs.SlotFacts.{last_of}
 use Rattle.fnc_records.specs.LevelRecords.{is_queried, level_started, level_ended}
 use Rattle.fnc_records.specs.LevelFacts.{IsLevelSlot, IsQuerySlot, IsLevel, AreFew}
-use Rattle.fnc_records.specs.OperationRecords.{is_idle, ranked_levels, ranked_if_queried, at_moment, operation_started, operation_ended}
-use Rattle.fnc_records.specs.OperationFacts.{IsCandidate, IsUnranked, IsOperation, kept_queries, tried_levels, AreDistinct, ArePast, AreInTurn}
+use Rattle.fnc_records.specs.OperationRecords.{
+  is_idle,
+  ranked_levels,
+  ranked_if_queried,
+  at_moment,
+  operation_started,
+  operation_ended,
+}
+use Rattle.fnc_records.specs.OperationFacts.{
+  IsCandidate,
+  IsUnranked,
+  IsOperation,
+  kept_queries,
+  tried_levels,
+  AreDistinct,
+  ArePast,
+  AreInTurn,
+}
 use Rattle.fnc_records.proofs.Zip.{zip_map, zip_each, zip_map_each}
-use Rattle.fnc_records.proofs.LevelSteps.{level_slot-started, query_slot-started, query-started, level-started, level_slot-ended, query_slot-ended, query-ended, level-ended, IsFree, AreFree, ForSome}
+use Rattle.fnc_records.proofs.LevelSteps.{
+  level_slot-started,
+  query_slot-started,
+  query-started,
+  level-started,
+  level_slot-ended,
+  query_slot-ended,
+  query-ended,
+  level-ended,
+  IsFree,
+  AreFree,
+  ForSome,
+}
 use Rattle.fnc_records.proofs.OperationAnswers.{queries_is}
 use Rattle.fnc_records.proofs.Ranking.{queries-ranked, queries-zip, ranks_by, ranks_known, ranks_unknown}
 

@@ -1,7 +1,30 @@
 -- Once all queries are concluded, the capable candidates are the levels that are tried.
-use Rattle.std.proofs.Common.{ℕ, List, [], ◌∷◌, Bool, true, false, ◌≡◌, ◌≤◌, ◌<◌, ◌+◌, refl, ap₂, sym, subst, Option, Some, None, cond, arith, length}
+use Rattle.std.proofs.Common.{
+  ℕ,
+  List,
+  [],
+  ◌∷◌,
+  Bool,
+  true,
+  false,
+  ◌≡◌,
+  ◌≤◌,
+  ◌<◌,
+  ◌+◌,
+  refl,
+  ap₂,
+  sym,
+  subst,
+  Option,
+  Some,
+  None,
+  cond,
+  arith,
+  length,
+}
 use Rattle.std.specs.Prelude.{filter, filter_map}
 use Rattle.std.specs.List.{AllZip, cons_option}
+use Rattle.fnc_journal.specs.declared.limits.TheConstants.{MOST_DEVICES}
 use Rattle.fnc_journal.specs.declared.entry.Kind.{Kind}
 use Rattle.fnc_journal.specs.Device.{Device}
 use Rattle.fnc_journal.specs.Slots.{Task, Operation, QueriedDevice, rank, ranked_from, is_split}
@@ -95,7 +118,7 @@ ranks_by o m xs l q e f = ap₂ (λ a b. cond a o.levels (cond b (ranked_from o.
 pub ranks_known : (o : Operation) (m : ℕ) (xs : List Act) (ls : List KeptLevel) → IsUnranked o xs ls → queries_concluded o m xs ≡ true →
     AllZip (IsLevel o xs) (tried_levels (ranked_levels 1 ls)) (ranks o m xs)
 ranks_known o m xs ls h e =
-    let few : length o.candidates ≤ 128 = h.few in
+    let few : length o.candidates ≤ MOST_DEVICES = h.few in
     subst (AllZip (IsLevel o xs) (tried_levels (ranked_levels 1 ls))) (sym (ranks_by o m xs false true h.unlevelled e))
     (ranks-from o xs 1 ls o.candidates (omega (arith, few)) h.candidates)
 

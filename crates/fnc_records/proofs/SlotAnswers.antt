@@ -1,5 +1,26 @@
 -- What a slot's record says is what the acts say.
-use Rattle.std.proofs.Common.{ℕ, List, [], ◌∷◌, Bool, true, false, ◌≡◌, ◌<◌, ◌+◌, ◌^◌, refl, ap, ap₂, Some, None, cond, ◌||◌, min, arith}
+use Rattle.std.proofs.Common.{
+  ℕ,
+  List,
+  [],
+  ◌∷◌,
+  Bool,
+  true,
+  false,
+  ◌≡◌,
+  ◌<◌,
+  ◌+◌,
+  ◌^◌,
+  refl,
+  ap,
+  ap₂,
+  Some,
+  None,
+  cond,
+  ◌||◌,
+  min,
+  arith,
+}
 use Rattle.std.specs.Prelude.{option_map, unwrap_or}
 use Rattle.fnc_journal.specs.declared.entry.Slot.{Slot}
 use Rattle.fnc_journal.specs.Same.{same_slot}
@@ -7,7 +28,19 @@ use Rattle.fnc_journal.specs.Slots.{Task, Operation}
 use Rattle.fnc_journal.specs.Device.{delay}
 use Rattle.fnc_journal.specs.Acts as Acts
 use Rattle.fnc_journal.specs.Standing.{since, ready_after}
-use Rattle.fnc_journal.specs.Acts.{Act, Last, last_run, has_succeeded, has_listed, confirmed, answered, spent, concluded, is_query, runs}
+use Rattle.fnc_journal.specs.Acts.{
+  Act,
+  Last,
+  last_run,
+  has_succeeded,
+  has_listed,
+  confirmed,
+  answered,
+  spent,
+  concluded,
+  is_query,
+  runs,
+}
 use Rattle.fnc_records.specs.declared.slot.LastRun.{LastRun}
 use Rattle.fnc_records.specs.declared.slot.SlotRecord.{SlotRecord}
 use Rattle.fnc_records.specs.SlotRecords.{is_spent, is_concluded, concluded_at, limit, attempt, ready, ready_by}

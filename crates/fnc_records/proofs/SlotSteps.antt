@@ -1,5 +1,29 @@
 -- A slot's record stays what the acts say when a run of its operation starts or ends.
-use Rattle.std.proofs.Common.{ℕ, List, ◌∷◌, Bool, true, false, ◌≡◌, ◌<◌, ◌+◌, ◌^◌, ◌==◌, refl, ap, ◌∙◌, Option, Some, None, cond, ◌&&◌, ◌||◌, nat_lt, min, arith}
+use Rattle.std.proofs.Common.{
+  ℕ,
+  List,
+  ◌∷◌,
+  Bool,
+  true,
+  false,
+  ◌≡◌,
+  ◌<◌,
+  ◌+◌,
+  ◌^◌,
+  ◌==◌,
+  refl,
+  ap,
+  ◌∙◌,
+  Option,
+  Some,
+  None,
+  cond,
+  ◌&&◌,
+  ◌||◌,
+  nat_lt,
+  min,
+  arith,
+}
 use Rattle.std.proofs.lemmas.Bool.Decides.{nat_tests}
 use Rattle.std.specs.Prelude.{option_map}
 use Rattle.fnc_journal.specs.declared.entry.Slot.{Slot}

@@ -1,5 +1,30 @@
 -- What is known of the slot at which an operation stands, and of the slot of a run that is alive.
-use Rattle.std.proofs.Common.{ℕ, List, [], ◌∷◌, Bool, true, false, ◌≡◌, refl, ap, ap₂, sym, ◌∙◌, subst, Option, Some, None, cond, not, ◌&&◌, ◌||◌, ◌==◌, min, arith}
+use Rattle.std.proofs.Common.{
+  ℕ,
+  List,
+  [],
+  ◌∷◌,
+  Bool,
+  true,
+  false,
+  ◌≡◌,
+  refl,
+  ap,
+  ap₂,
+  sym,
+  ◌∙◌,
+  subst,
+  Option,
+  Some,
+  None,
+  cond,
+  not,
+  ◌&&◌,
+  ◌||◌,
+  ◌==◌,
+  min,
+  arith,
+}
 use Rattle.std.proofs.lemmas.Bool.{or_parts, not-true, both_ways}
 use Rattle.std.proofs.lemmas.Bool.Decides.{nat_tests}
 use Rattle.std.specs.Prelude.{find, option_map, option_and_then}
@@ -9,7 +34,21 @@ use Rattle.fnc_journal.specs.declared.entry.Slot.{Slot}
 use Rattle.fnc_journal.specs.Missing.{has_come, or_here}
 use Rattle.fnc_journal.specs.Same.{same_slot}
 use Rattle.fnc_journal.specs.Slots.{Task, Operation, Rank, queries, ranked_from, slots_of, tries}
-use Rattle.fnc_journal.specs.Acts.{Act, Last, slot_of_run, last_run, is_query, is_query_phase, concluded, spent, failed, has_succeeded, end, is_below, confirmed}
+use Rattle.fnc_journal.specs.Acts.{
+  Act,
+  Last,
+  slot_of_run,
+  last_run,
+  is_query,
+  is_query_phase,
+  concluded,
+  spent,
+  failed,
+  has_succeeded,
+  end,
+  is_below,
+  confirmed,
+}
 use Rattle.fnc_journal.specs.Standing as Standing
 use Rattle.fnc_journal.specs.Standing.{ranks, capable, queries_concluded, lost, is_lost_by, first_kept, standing_in}
 use Rattle.fnc_journal.proofs.Each.{found-each, each-map}
@@ -20,7 +59,14 @@ use Rattle.fnc_records.specs.declared.slot.SlotRecord.{SlotRecord}
 use Rattle.fnc_records.specs.KeptOperation.{KeptOperation}
 use Rattle.fnc_records.specs.SlotFacts.{last_of}
 use Rattle.fnc_records.specs.LevelFacts.{IsLevelSlot, IsQuerySlot, IsLevel}
-use Rattle.fnc_records.specs.OperationFacts.{IsOperation, AreDistinct, AreQueries, last_begun, kept_queries, tried_levels}
+use Rattle.fnc_records.specs.OperationFacts.{
+  IsOperation,
+  AreDistinct,
+  AreQueries,
+  last_begun,
+  kept_queries,
+  tried_levels,
+}
 use Rattle.fnc_records.proofs.Distinct.{ranked-distinct}
 use Rattle.fnc_records.proofs.Searches.{found-passes, none-each, each-both, each-slots}
 use Rattle.fnc_records.proofs.Zip.{zip_each}
