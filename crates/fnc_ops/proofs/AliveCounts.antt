@@ -1,5 +1,38 @@
 -- How many runs are alive after a start and after an exit.
-use Rattle.std.proofs.Common.{ℕ, List, [], ◌∷◌, ◌++◌, Bool, true, false, ◌≡◌, ◌<◌, ◌≤◌, ◌+◌, ◌-◌, ◌==◌, refl, ap, sym, ◌∙◌, subst, Option, Some, None, cond, not, is_some, arith, length, eqb-true, eq-eqb, ne_eqb, IsTrue, ◌||◌}
+use Rattle.std.proofs.Common.{
+  ℕ,
+  List,
+  [],
+  ◌∷◌,
+  ◌++◌,
+  Bool,
+  true,
+  false,
+  ◌≡◌,
+  ◌<◌,
+  ◌≤◌,
+  ◌+◌,
+  ◌-◌,
+  ◌==◌,
+  refl,
+  ap,
+  sym,
+  ◌∙◌,
+  subst,
+  Option,
+  Some,
+  None,
+  cond,
+  not,
+  is_some,
+  arith,
+  length,
+  eqb-true,
+  eq-eqb,
+  ne_eqb,
+  IsTrue,
+  ◌||◌,
+}
 use Rattle.std.specs.Prelude.{filter, find}
 use Rattle.std.specs.List.{list_any, AllByRecursion}
 use Rattle.fnc_journal.specs.declared.event.Ended.{Ended}

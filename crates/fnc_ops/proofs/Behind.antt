@@ -1,7 +1,36 @@
 -- The record that comes to a moment, because its standing slot has come to its end by then, spoke at an earlier one.
-use Rattle.std.proofs.Common.{ℕ, List, [], ◌∷◌, Bool, true, false, ◌≡◌, ◌≤◌, ◌<◌, ◌+◌, ◌==◌, ◌&&◌, ◌||◌, refl, ap, ◌∙◌, subst, Option, Some, None, cond, not, map, eq-eqb, arith, nat_lt, nat_le}
+use Rattle.std.proofs.Common.{
+  ℕ,
+  List,
+  [],
+  ◌∷◌,
+  Bool,
+  true,
+  false,
+  ◌≡◌,
+  ◌≤◌,
+  ◌<◌,
+  ◌+◌,
+  ◌==◌,
+  ◌&&◌,
+  ◌||◌,
+  refl,
+  ap,
+  ◌∙◌,
+  subst,
+  Option,
+  Some,
+  None,
+  cond,
+  not,
+  map,
+  eq-eqb,
+  arith,
+  nat_lt,
+  nat_le,
+}
 use Rattle.std.proofs.lemmas.Bool.Decides.{nat_tests}
-use Rattle.std.specs.Prelude.{find, option_map, option_and_then}
+use Rattle.std.specs.Prelude.{find, option_map, option_and_then, is_none}
 use Rattle.std.specs.List.{list_any}
 use Rattle.std.specs.Option.{option_or}
 use Rattle.fnc_journal.specs.declared.entry.Req.{Req}
@@ -12,11 +41,18 @@ use Rattle.fnc_records.specs.KeptLevel.{KeptLevel}
 use Rattle.fnc_records.specs.KeptOperation.{KeptOperation}
 use Rattle.fnc_records.specs.SlotRecords.{come_by, is_concluded}
 use Rattle.fnc_records.specs.LevelRecords.{open_of, open_query, is_lost_by, standing_in}
-use Rattle.fnc_records.specs.OperationRecords.{first_query, is_kept, standing_slot, expired_at, at_moment, only}
+use Rattle.fnc_records.specs.OperationRecords.{
+  first_query,
+  is_kept,
+  standing_slot,
+  expired_at,
+  at_moment,
+  at_moment_unless_ending,
+}
 use Rattle.fnc_ops.specs.OpsRecords.{expiry_by, sooner, first_expiry, first_expired, moved}
-use Rattle.fnc_ops.specs.Stands.{AreBy, behind}
+use Rattle.fnc_ops.specs.Stands.{AreBy, behind, SpeaksAt}
 use Rattle.fnc_ops.proofs.StandsExits.{moment-ranked, req-ranked}
-use Rattle.fnc_ops.proofs.Waits.{numbers-map, req-only}
+use Rattle.fnc_ops.proofs.Waits.{numbers-map}
 
 -- a slot at which an operation stands has not come to its end
 module _ (m : ℕ) where
@@ -122,14 +158,15 @@ expires-later m r at e = go (standing_slot r.moment r) refl e
 -- no record comes to speak at an earlier moment than it did
 module _ (m req : ℕ) where
   abbrev moved_one : KeptOperation → KeptOperation
-  moved_one = only req (at_moment m)
+  moved_one = at_moment_unless_ending req m
 
   now-not : (r : KeptOperation) → nat_lt (at_moment m r).moment m ≡ false
   now-not r = ap (λ n. nat_lt n m) (moment-ranked m (record r { moment = m })) ∙ grind (arith, nat_tests)
 
   behind-most : (rs : List KeptOperation) → behind m (map moved_one rs) ≤ behind m rs
   behind-most [] = omega arith
-  behind-most (r ∷ rs) = go (r.req == req) (nat_lt r.moment m) refl (behind-most rs)
+  behind-most (r ∷ rs) =
+      go ((r.req == req) || is_none (expired_at m r)) (nat_lt r.moment m) refl (behind-most rs)
     where
       go : (b c : Bool) → nat_lt r.moment m ≡ c → behind m (map moved_one rs) ≤ behind m rs →
           cond (nat_lt (cond b (at_moment m r) r).moment m) (behind m (map moved_one rs) + 1) (behind m (map moved_one rs)) ≤ cond c (behind m rs + 1) (behind m rs)
@@ -146,7 +183,7 @@ module _ (m req : ℕ) where
       rw (here, now-not r, was) (omega (arith, rest))
 
   behind-there : (r : KeptOperation) (rs : List KeptOperation) → behind m (map moved_one rs) < behind m rs → behind m (map moved_one (r ∷ rs)) < behind m (r ∷ rs)
-  behind-there r rs rest = go (r.req == req) (nat_lt r.moment m) refl
+  behind-there r rs rest = go ((r.req == req) || is_none (expired_at m r)) (nat_lt r.moment m) refl
     where
       go : (b c : Bool) → nat_lt r.moment m ≡ c →
           cond (nat_lt (cond b (at_moment m r) r).moment m) (behind m (map moved_one rs) + 1) (behind m (map moved_one rs)) < cond c (behind m rs + 1) (behind m rs)
@@ -156,33 +193,34 @@ module _ (m req : ℕ) where
       go false false k = rw k rest
 
 -- of those that expire the first speaks at an earlier moment, so that fewer do once it has come
-first-fewer : (m : ℕ) (rs : List KeptOperation) (e : Expiry) → first_expiry m rs ≡ Some e → behind m (map (only e.req.0 (at_moment m)) rs) < behind m rs
+first-fewer : (m : ℕ) (rs : List KeptOperation) (e : Expiry) → first_expiry m rs ≡ Some e →
+    behind m (map (at_moment_unless_ending e.req.0 m) rs) < behind m rs
 first-fewer m [] e f = cc
 first-fewer m (r ∷ rs) e f = go (expired_at m r) refl (first_expiry m rs) f (λ k. first-fewer m rs e k)
   where
     some_expiry : (a b : Expiry) → ◌≡◌ {A = Option Expiry} (Some a) (Some b) → a ≡ b
     some_expiry a b k = cc
 
-    here : (at : ℕ) → expired_at m r ≡ Some at → record { req = record { 0 = r.req }; end = at } ≡ e → behind m (map (only e.req.0 (at_moment m)) (r ∷ rs)) < behind m (r ∷ rs)
+    here : (at : ℕ) → expired_at m r ≡ Some at → record { req = record { 0 = r.req }; end = at } ≡ e → behind m (map (at_moment_unless_ending e.req.0 m) (r ∷ rs)) < behind m (r ∷ rs)
     here at k same = behind-here m e.req.0 r rs (ap (λ (w : Expiry). w.req.0) same) (expires-later m r at k)
 
     pick : (at : ℕ) (x : Expiry) → expired_at m r ≡ Some at → (b : Bool) → Some (cond b x (record { req = record { 0 = r.req }; end = at })) ≡ Some e →
-        (Some x ≡ Some e → behind m (map (only e.req.0 (at_moment m)) rs) < behind m rs) → behind m (map (only e.req.0 (at_moment m)) (r ∷ rs)) < behind m (r ∷ rs)
+        (Some x ≡ Some e → behind m (map (at_moment_unless_ending e.req.0 m) rs) < behind m rs) → behind m (map (at_moment_unless_ending e.req.0 m) (r ∷ rs)) < behind m (r ∷ rs)
     pick at x k true g ih = behind-there m e.req.0 r rs (ih g)
     pick at x k false g ih = here at k (some_expiry _ e g)
 
     go : (x : Option ℕ) → expired_at m r ≡ x → (y : Option Expiry) → sooner (expiry_by r x) y ≡ Some e →
-        (y ≡ Some e → behind m (map (only e.req.0 (at_moment m)) rs) < behind m rs) → behind m (map (only e.req.0 (at_moment m)) (r ∷ rs)) < behind m (r ∷ rs)
+        (y ≡ Some e → behind m (map (at_moment_unless_ending e.req.0 m) rs) < behind m rs) → behind m (map (at_moment_unless_ending e.req.0 m) (r ∷ rs)) < behind m (r ∷ rs)
     go None k y g ih = behind-there m e.req.0 r rs (ih g)
     go (Some at) k None g ih = here at k (some_expiry _ e g)
     go (Some at) k (Some x) g ih = pick at x k (nat_lt x.end at) g ih
 
-pub fewer-behind : (m : ℕ) (rs : List KeptOperation) (req : Req) → first_expired m rs ≡ Some req → behind m (map (only req.0 (at_moment m)) rs) < behind m rs
+pub fewer-behind : (m : ℕ) (rs : List KeptOperation) (req : Req) → first_expired m rs ≡ Some req → behind m (map (at_moment_unless_ending req.0 m) rs) < behind m rs
 fewer-behind m rs req e = go (first_expiry m rs) refl e
   where
-    go : (x : Option Expiry) → first_expiry m rs ≡ x → option_map (λ (w : Expiry). w.req) x ≡ Some req → behind m (map (only req.0 (at_moment m)) rs) < behind m rs
+    go : (x : Option Expiry) → first_expiry m rs ≡ x → option_map (λ (w : Expiry). w.req) x ≡ Some req → behind m (map (at_moment_unless_ending req.0 m) rs) < behind m rs
     go None k f = cc
-    go (Some w) k f = let same : w.req ≡ req = some_req w.req req f in subst (λ (q : Req). behind m (map (only q.0 (at_moment m)) rs) < behind m rs) same (first-fewer m rs w k)
+    go (Some w) k f = let same : w.req ≡ req = some_req w.req req f in subst (λ (q : Req). behind m (map (at_moment_unless_ending q.0 m) rs) < behind m rs) same (first-fewer m rs w k)
       where
         some_req : (a b : Req) → ◌≡◌ {A = Option Req} (Some a) (Some b) → a ≡ b
         some_req a b k = cc
@@ -198,12 +236,36 @@ pub by-moved : (m : ℕ) (x : Option Req) (rs : List KeptOperation) → AreBy m 
 by-moved m None [] a = tt
 by-moved m None (r ∷ rs) a = (let now : (at_moment m r).moment ≡ m = moment-moved m r in omega (arith, now), by-moved m None rs a.1)
 by-moved m (Some req) [] a = tt
-by-moved m (Some req) (r ∷ rs) a = (go (r.req == req.0), by-moved m (Some req) rs a.1)
+by-moved m (Some req) (r ∷ rs) a =
+    (go ((r.req == req.0) || is_none (expired_at m r)), by-moved m (Some req) rs a.1)
   where
     go : (b : Bool) → (cond b (at_moment m r) r).moment ≤ m
     go true = let now : (at_moment m r).moment ≡ m = moment-moved m r in omega (arith, now)
     go false = a.0
 
-pub numbers-moved : (m : ℕ) (x : Option Req) (rs : List KeptOperation) → map (λ r. r.req) (moved x m rs) ≡ map (λ r. r.req) rs
+req-unless : (m req : ℕ) (r : KeptOperation) → (at_moment_unless_ending req m r).req ≡ r.req
+req-unless m req r = go ((r.req == req) || is_none (expired_at m r))
+  where
+    go : (b : Bool) → (cond b (at_moment m r) r).req ≡ r.req
+    go true = req-moved m r
+    go false = refl
+
+pub numbers-moved : (m : ℕ) (x : Option Req) (rs : List KeptOperation) →
+    map (λ r. r.req) (moved x m rs) ≡ map (λ r. r.req) rs
 numbers-moved m None rs = numbers-map (at_moment m) (req-moved m) rs
-numbers-moved m (Some req) rs = numbers-map (only req.0 (at_moment m)) (req-only req.0 (at_moment m) (req-moved m)) rs
+numbers-moved m (Some req) rs = numbers-map (at_moment_unless_ending req.0 m) (req-unless m req.0) rs
+
+-- the record of the operation that comes to a moment speaks at it
+pub told-moved : (m req : ℕ) (rs : List KeptOperation) →
+    SpeaksAt m req (map (at_moment_unless_ending req m) rs)
+told-moved m req [] = tt
+told-moved m req (r ∷ rs) = (go (r.req == req) (is_none (expired_at m r)) refl, told-moved m req rs)
+  where
+    other : (b : Bool) → b ≡ false → b ≡ true → ⊥
+    other b e f = cc
+
+    go : (b c : Bool) → (r.req == req) ≡ b →
+        ((cond (b || c) (at_moment m r) r).req == req) ≡ true → (cond (b || c) (at_moment m r) r).moment ≡ m
+    go true c k e = moment-moved m r
+    go false true k e = moment-moved m r
+    go false false k e = absurd (other (r.req == req) k e)

@@ -1,5 +1,23 @@
 -- The devices that an operation tries were registered with definitions within their bounds.
-use Rattle.std.proofs.Common.{ℕ, List, [], ◌∷◌, Bool, true, false, ◌≡◌, ◌≤◌, refl, Option, Some, None, cond, length, map, arith}
+use Rattle.std.proofs.Common.{
+  ℕ,
+  List,
+  [],
+  ◌∷◌,
+  Bool,
+  true,
+  false,
+  ◌≡◌,
+  ◌≤◌,
+  refl,
+  Option,
+  Some,
+  None,
+  cond,
+  length,
+  map,
+  arith,
+}
 use Rattle.std.specs.Prelude.{filter_map, is_none, option_map, option_and_then}
 use Rattle.std.specs.List.{AllByRecursion, cons_option, list_any}
 use Rattle.fnc_journal.specs.declared.entry.Kind.{Kind}

@@ -1,5 +1,23 @@
 -- The records of levels and candidates of an operation that begins are those of its levels and candidates.
-use Rattle.std.proofs.Common.{ℕ, List, [], ◌∷◌, Bool, true, false, ◌≤◌, ◌+◌, refl, Option, Some, None, cond, arith, length, map}
+use Rattle.std.proofs.Common.{
+  ℕ,
+  List,
+  [],
+  ◌∷◌,
+  Bool,
+  true,
+  false,
+  ◌≤◌,
+  ◌+◌,
+  refl,
+  Option,
+  Some,
+  None,
+  cond,
+  arith,
+  length,
+  map,
+}
 use Rattle.std.specs.Prelude.{option_map, filter_map}
 use Rattle.std.specs.List.{AllZip, AllByRecursion, cons_option}
 use Rattle.fnc_journal.specs.declared.entry.Kind.{Kind}
@@ -8,7 +26,22 @@ use Rattle.fnc_journal.specs.declared.plan.Candidate.{Candidate}
 use Rattle.fnc_journal.specs.declared.plan.PlanLevel.{PlanLevel}
 use Rattle.fnc_journal.specs.History.{History}
 use Rattle.fnc_journal.specs.Device.{Device}
-use Rattle.fnc_journal.specs.Slots.{Task, Operation, QueriedDevice, task, act_task, acts_from, ons_from, is_split, fit_devices, rank_of, device_of, place_of, queried, queried_from}
+use Rattle.fnc_journal.specs.Slots.{
+  Task,
+  Operation,
+  QueriedDevice,
+  task,
+  act_task,
+  acts_from,
+  ons_from,
+  is_split,
+  fit_devices,
+  rank_of,
+  device_of,
+  place_of,
+  queried,
+  queried_from,
+}
 use Rattle.fnc_journal.proofs.Each.{each-map}
 use Rattle.fnc_records.specs.LevelFacts.{IsLevelSlot, IsQuery, IsLevel}
 use Rattle.fnc_records.specs.OperationFacts.{IsCandidate, AreDistinct}

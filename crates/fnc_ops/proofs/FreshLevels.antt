@@ -1,5 +1,32 @@
 -- The record of a level that begins, by the devices at its places.
-use Rattle.std.proofs.Common.{ℕ, List, [], ◌∷◌, ◌++◌, Bool, true, false, ◌≡◌, ◌+◌, refl, ap, sym, Option, Some, None, map, length, append_assoc, ◌||◌, arith, ◌<◌, drop, get_or, drop-cons, add-one}
+use Rattle.std.proofs.Common.{
+  ℕ,
+  List,
+  [],
+  ◌∷◌,
+  ◌++◌,
+  Bool,
+  true,
+  false,
+  ◌≡◌,
+  ◌+◌,
+  refl,
+  ap,
+  sym,
+  Option,
+  Some,
+  None,
+  map,
+  length,
+  append_assoc,
+  ◌||◌,
+  arith,
+  ◌<◌,
+  drop,
+  get_or,
+  drop-cons,
+  add-one,
+}
 use Rattle.std.proofs.lemmas.Bool.{le-leb}
 use Rattle.std.specs.Prelude.{option_map, is_none, filter_map}
 use Rattle.std.specs.List.{list_any, cons_option}

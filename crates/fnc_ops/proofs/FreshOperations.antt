@@ -1,13 +1,51 @@
 -- The record of an operation that begins is that of the operation, of which nothing was started yet.
-use Rattle.std.proofs.Common.{ℕ, List, [], ◌∷◌, ◌++◌, Bool, true, false, ◌≡◌, ◌≤◌, ◌+◌, ◌-◌, ◌*◌, refl, ap, ap₂, sym, ◌∙◌, subst, cond, arith, length, map, ◌||◌}
+use Rattle.std.proofs.Common.{
+  ℕ,
+  List,
+  [],
+  ◌∷◌,
+  ◌++◌,
+  Bool,
+  true,
+  false,
+  ◌≡◌,
+  ◌≤◌,
+  ◌+◌,
+  ◌-◌,
+  ◌*◌,
+  refl,
+  ap,
+  ap₂,
+  sym,
+  ◌∙◌,
+  subst,
+  cond,
+  arith,
+  length,
+  map,
+  ◌||◌,
+}
 use Rattle.std.specs.Prelude.{filter_map}
 use Rattle.std.specs.List.{AllZip, list_all}
+use Rattle.fnc_journal.specs.declared.limits.TheConstants.{MOST_DEVICES, MOST_LEVELS_OF_TARGET, MOST_TRIES}
 use Rattle.fnc_journal.specs.declared.entry.Scope.{Scope}
 use Rattle.fnc_journal.specs.declared.plan.Candidate.{Candidate}
 use Rattle.fnc_journal.specs.declared.plan.Plan.{Plan}
 use Rattle.fnc_journal.specs.History.{History}
 use Rattle.fnc_journal.specs.Plan.{Wanted, candidates_by, plan}
-use Rattle.fnc_journal.specs.Slots.{Operation, Rank, QueriedDevice, is_levelled, queries, queried_from, ranked_from, rank_of, slots_of, all_slots, Task}
+use Rattle.fnc_journal.specs.Slots.{
+  Operation,
+  Rank,
+  QueriedDevice,
+  is_levelled,
+  queries,
+  queried_from,
+  ranked_from,
+  rank_of,
+  slots_of,
+  all_slots,
+  Task,
+}
 use Rattle.fnc_journal.specs.Standing.{queries_concluded}
 use Rattle.fnc_journal.specs.Owed.{untried, tries_of}
 use Rattle.fnc_ops.specs.declared.ops.Operation.{Operation as Request}
@@ -16,8 +54,23 @@ use Rattle.fnc_records.specs.KeptLevel.{KeptLevel}
 use Rattle.fnc_records.specs.KeptOperation.{KeptOperation}
 use Rattle.fnc_records.specs.LevelRecords.{is_queried}
 use Rattle.fnc_records.specs.LevelFacts.{IsQuerySlot, IsLevel}
-use Rattle.fnc_records.specs.OperationFacts.{AreDistinct, IsOperation, IsCandidate, kept_queries, tried_levels, left_levels}
-use Rattle.fnc_ops.specs.FreshRecords.{fresh_level, fresh_candidate, fresh_levels, unseen_operation, fresh_operation, begun_by, all_tries_after}
+use Rattle.fnc_records.specs.OperationFacts.{
+  AreDistinct,
+  IsOperation,
+  IsCandidate,
+  kept_queries,
+  tried_levels,
+  left_levels,
+}
+use Rattle.fnc_ops.specs.FreshRecords.{
+  fresh_level,
+  fresh_candidate,
+  fresh_levels,
+  unseen_operation,
+  fresh_operation,
+  begun_by,
+  all_tries_after,
+}
 use Rattle.fnc_ops.specs.Stands.{AreBounded, AreFewDevices}
 use Rattle.fnc_records.proofs.Ranking.{ranks_by}
 use Rattle.fnc_records.proofs.OperationSteps.{rank_by, ranked-once}
@@ -25,7 +78,14 @@ use Rattle.fnc_ops.proofs.StandsExits.{untried-ranked}
 use Rattle.fnc_ops.proofs.FreshFacts.{levels-fresh, candidates-fresh, queries-distinct, queried-few}
 use Rattle.fnc_records.proofs.LeftTries.{left-ranked}
 use Rattle.fnc_ops.proofs.FreshLeft.{levels-left, candidates-left}
-use Rattle.fnc_ops.proofs.FreshTries.{levels-tried, candidates-tried, levels-few, queries-few, acts-few, tries_of-append}
+use Rattle.fnc_ops.proofs.FreshTries.{
+  levels-tried,
+  candidates-tried,
+  levels-few,
+  queries-few,
+  acts-few,
+  tries_of-append,
+}
 
 -- the levels of a plan are all tried, and ask nothing
 levels-asked : (target : List ℕ) (coin : ℕ) (ls : List Rank) → kept_queries (map (fresh_level target coin) ls) ≡ []
@@ -51,7 +111,7 @@ none_begun n = omega arith
 none_more : (n k : ℕ) → 0 + n + k ≡ n + k - 0
 none_more n k = omega arith
 
-module _ (r : Request) (p : Plan) (h : History) (bounded : AreBounded h) (bare : is_levelled p.scope ≡ true → p.candidates ≡ []) (apart : AreDistinct (slots_of (map (rank_of r.kind h) p.levels))) (few : length p.candidates ≤ 128) where
+module _ (r : Request) (p : Plan) (h : History) (bounded : AreBounded h) (bare : is_levelled p.scope ≡ true → p.candidates ≡ []) (apart : AreDistinct (slots_of (map (rank_of r.kind h) p.levels))) (few : length p.candidates ≤ MOST_DEVICES) where
   abbrev o : Operation
   o = begun_by r p h
 
@@ -99,7 +159,7 @@ module _ (r : Request) (p : Plan) (h : History) (bounded : AreBounded h) (bare :
       go false e = asked-fresh e
 
   -- nothing of it was tried
-  pub untried-fresh : length p.levels ≤ 9 → AreFewDevices p.levels → (fresh_operation o).untried ≡ untried o []
+  pub untried-fresh : length p.levels ≤ MOST_LEVELS_OF_TARGET → AreFewDevices p.levels → (fresh_operation o).untried ≡ untried o []
   untried-fresh few_levels few_devices = untried-ranked r.moment (unseen_operation o) ∙ go (is_levelled p.scope) refl
     where
       levels : is_levelled p.scope ≡ true → all_tries_after 0 (fresh_levels o) ≡ all_tries_after 0 (map (fresh_level r.target r.coin) o.levels)
@@ -115,8 +175,8 @@ module _ (r : Request) (p : Plan) (h : History) (bounded : AreBounded h) (bare :
           let slots : tries_of (all_slots o) ≡ tries_of (slots_of o.levels) = ap₂ (λ (qs : List Task) (b : Bool). tries_of (qs ++ slots_of (cond b o.levels (ranked_from r.kind 1 o.candidates)))) (none-asked e) e in
           levels e ∙ counted ∙ sym (none_begun (tries_of (slots_of o.levels))) ∙ ap (λ n. n - 0) (sym slots)
       go false e =
-          let asked : tries_of (queries o) ≤ 16 * length p.candidates = queries-few r.kind h bounded 0 p.candidates in
-          let acted : tries_of (slots_of (ranked_from r.kind 1 o.candidates)) ≤ 16 * length p.candidates = acts-few r.kind h bounded 1 0 p.candidates in
+          let asked : tries_of (queries o) ≤ MOST_TRIES * length p.candidates = queries-few r.kind h bounded 0 p.candidates in
+          let acted : tries_of (slots_of (ranked_from r.kind 1 o.candidates)) ≤ MOST_TRIES * length p.candidates = acts-few r.kind h bounded 1 0 p.candidates in
           let counted : all_tries_after 0 (map (fresh_candidate r.kind r.target r.coin) o.candidates) ≡ 0 + tries_of (queries o) + tries_of (slots_of (ranked_from r.kind 1 o.candidates)) =
           candidates-tried r.target r.coin r.kind 0 1 o.candidates (omega (arith, asked, acted, few)) in
           let slots : tries_of (all_slots o) ≡ tries_of (queries o) + tries_of (slots_of (ranked_from r.kind 1 o.candidates)) =

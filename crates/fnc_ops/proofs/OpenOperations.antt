@@ -1,5 +1,26 @@
 -- The operations that are open: each of them is, and no two have one number.
-use Rattle.std.proofs.Common.{ℕ, List, [], ◌∷◌, Bool, true, false, ◌≡◌, ◌==◌, refl, sym, subst, Option, Some, None, IsTrue, cond, arith, eqb-true, ne_eqb}
+use Rattle.std.proofs.Common.{
+  ℕ,
+  List,
+  [],
+  ◌∷◌,
+  Bool,
+  true,
+  false,
+  ◌≡◌,
+  ◌==◌,
+  refl,
+  sym,
+  subst,
+  Option,
+  Some,
+  None,
+  IsTrue,
+  cond,
+  arith,
+  eqb-true,
+  ne_eqb,
+}
 use Rattle.std.specs.Prelude.{filter, filter_map}
 use Rattle.std.specs.List.{AllByRecursion, cons_option}
 use Rattle.fnc_journal.specs.declared.event.Event.{Event}

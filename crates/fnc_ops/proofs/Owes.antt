@@ -1,5 +1,25 @@
 -- What the records owe is what the journal owes, and its sum is exact where it fits.
-use Rattle.std.proofs.Common.{ℕ, List, [], ◌∷◌, ◌≡◌, ◌<◌, ◌+◌, ◌*◌, ◌^◌, refl, ap, ap₂, ◌∙◌, arith, length, Result, Ok, Err, OkIff}
+use Rattle.std.proofs.Common.{
+  ℕ,
+  List,
+  [],
+  ◌∷◌,
+  ◌≡◌,
+  ◌<◌,
+  ◌+◌,
+  ◌*◌,
+  ◌^◌,
+  refl,
+  ap,
+  ap₂,
+  ◌∙◌,
+  arith,
+  length,
+  Result,
+  Ok,
+  Err,
+  OkIff,
+}
 use Rattle.std.specs.Result.{result_unwrap_or}
 use Rattle.std.specs.List.{AllZip}
 use Rattle.fnc_journal.specs.declared.entry.Req.{Req}

@@ -1,8 +1,41 @@
 -- The tries that are counted by a plan's devices are the allowed tries of all slots of its operation.
-use Rattle.std.proofs.Common.{ℕ, List, [], ◌∷◌, ◌++◌, Bool, true, false, ◌≡◌, ◌≤◌, ◌<◌, ◌+◌, ◌*◌, ◌^◌, refl, ap, ap₂, sym, ◌∙◌, Option, Some, None, cond, arith, length, map}
+use Rattle.std.proofs.Common.{
+  ℕ,
+  List,
+  [],
+  ◌∷◌,
+  ◌++◌,
+  Bool,
+  true,
+  false,
+  ◌≡◌,
+  ◌≤◌,
+  ◌<◌,
+  ◌+◌,
+  ◌*◌,
+  ◌^◌,
+  refl,
+  ap,
+  ap₂,
+  sym,
+  ◌∙◌,
+  Option,
+  Some,
+  None,
+  cond,
+  arith,
+  length,
+  map,
+}
 use Rattle.std.specs.Prelude.{option_map, filter_map, is_none}
 use Rattle.std.specs.List.{cons_option, list_any}
 use Rattle.std.proofs.lemmas.List.{length-map}
+use Rattle.fnc_journal.specs.declared.limits.TheConstants.{
+  MOST_DEVICES,
+  MOST_DEVICES_OF_LEVEL,
+  MOST_LEVELS_OF_TARGET,
+  MOST_TRIES,
+}
 use Rattle.fnc_journal.specs.declared.entry.Kind.{Kind}
 use Rattle.fnc_journal.specs.declared.entry.Phase.{Phase}
 use Rattle.fnc_journal.specs.declared.plan.Candidate.{Candidate}
@@ -12,9 +45,40 @@ use Rattle.fnc_journal.specs.Device.{Device}
 use Rattle.fnc_journal.specs.Found.{Asked}
 use Rattle.fnc_journal.specs.History.{History}
 use Rattle.fnc_journal.specs.Owed.{tries_of}
-use Rattle.fnc_journal.specs.Slots.{QueriedDevice, tries, act_task, acts_from, ons_from, task, is_split, rank, rank_of, device_of, place_of, queried, queried_from, ranked_from, slots_of, is_levelled, all_slots, operation_by}
+use Rattle.fnc_journal.specs.Slots.{
+  QueriedDevice,
+  tries,
+  act_task,
+  acts_from,
+  ons_from,
+  task,
+  is_split,
+  rank,
+  rank_of,
+  device_of,
+  place_of,
+  queried,
+  queried_from,
+  ranked_from,
+  slots_of,
+  is_levelled,
+  all_slots,
+  operation_by,
+}
 use Rattle.fnc_ops.specs.FreshRecords.{splits}
-use Rattle.fnc_ops.specs.PlanTries.{sum_from, first_tries, on_tries, place_tries, level_tries, query_tries, act_tries, device_tries, candidate_tries, ranked_tries, plan_tries}
+use Rattle.fnc_ops.specs.PlanTries.{
+  sum_from,
+  first_tries,
+  on_tries,
+  place_tries,
+  level_tries,
+  query_tries,
+  act_tries,
+  device_tries,
+  candidate_tries,
+  ranked_tries,
+  plan_tries,
+}
 use Rattle.fnc_records.specs.SlotRecords.{capped}
 use Rattle.fnc_ops.specs.Stands.{AreBounded, AreFewDevices}
 use Rattle.fnc_ops.proofs.FreshLevels.{any-map, no_split, splits-there}
@@ -86,7 +150,7 @@ rank-none kind index ds e = rw (e, no_split kind) refl
 
 module _ (kind : Kind) (h : History) (bounded : AreBounded h) where
   -- what is counted of a level are the tries of its slots
-  level-is : (l : PlanLevel) → length l.devices ≤ 8 → level_tries kind h l ≡ tries_of ((rank_of kind h l).firsts ++ (rank_of kind h l).ons)
+  level-is : (l : PlanLevel) → length l.devices ≤ MOST_DEVICES_OF_LEVEL → level_tries kind h l ≡ tries_of ((rank_of kind h l).firsts ++ (rank_of kind h l).ons)
   level-is l few = go (list_any (λ p. is_none (place_of kind h p)) l.devices) (any-map is_none (place_of kind h) l.devices)
     where
       places : List (Option Device)
@@ -114,7 +178,7 @@ module _ (kind : Kind) (h : History) (bounded : AreBounded h) where
       tries_of-append ((rank_of kind h l).firsts ++ (rank_of kind h l).ons) (slots_of (map (rank_of kind h) ls)) in
       omega (arith, here, rest, both)
 
-  levels-is : (ls : List PlanLevel) → length ls ≤ 9 → AreFewDevices ls → sum_from 0 (map (level_tries kind h) ls) ≡ tries_of (slots_of (map (rank_of kind h) ls))
+  levels-is : (ls : List PlanLevel) → length ls ≤ MOST_LEVELS_OF_TARGET → AreFewDevices ls → sum_from 0 (map (level_tries kind h) ls) ≡ tries_of (slots_of (map (rank_of kind h) ls))
   levels-is ls few few_devices =
       let all : total (map (level_tries kind h) ls) ≡ tries_of (slots_of (map (rank_of kind h) ls)) = levels-total ls few_devices in
       let most : tries_of (slots_of (map (rank_of kind h) ls)) ≤ 256 * length ls = levels-few kind h bounded ls few_devices in
@@ -160,15 +224,15 @@ module _ (kind : Kind) (h : History) (bounded : AreBounded h) where
           let e : total (map (candidate_tries levelled kind h) cs) ≡ asked rest + acted levelled (k + 1) rest = ih (k + 1) (omega (arith, one, two, all)) in
           omega (arith, one, two, uncut, e)
 
-  acted-few : (levelled : Bool) (place k : ℕ) (cs : List Candidate) → acted levelled k (queried_from place h cs) ≤ 16 * length cs
+  acted-few : (levelled : Bool) (place k : ℕ) (cs : List Candidate) → acted levelled k (queried_from place h cs) ≤ MOST_TRIES * length cs
   acted-few true place k cs = omega arith
   acted-few false place k cs = acts-few kind h bounded k place cs
 
-  candidates-is : (levelled : Bool) (cs : List Candidate) → length cs ≤ 128 →
+  candidates-is : (levelled : Bool) (cs : List Candidate) → length cs ≤ MOST_DEVICES →
       (sum_from 0 (map (candidate_tries levelled kind h) cs) ≡ asked (queried_from 0 h cs) + acted levelled 1 (queried_from 0 h cs)) × (sum_from 0 (map (candidate_tries levelled kind h) cs) ≤ 4096)
   candidates-is levelled cs few =
-      let queries : asked (queried_from 0 h cs) ≤ 16 * length cs = queries-few kind h bounded 0 cs in
-      let acts : acted levelled 1 (queried_from 0 h cs) ≤ 16 * length cs = acted-few levelled 0 1 cs in
+      let queries : asked (queried_from 0 h cs) ≤ MOST_TRIES * length cs = queries-few kind h bounded 0 cs in
+      let acts : acted levelled 1 (queried_from 0 h cs) ≤ MOST_TRIES * length cs = acted-few levelled 0 1 cs in
       let all : total (map (candidate_tries levelled kind h) cs) ≡ asked (queried_from 0 h cs) + acted levelled 1 (queried_from 0 h cs) = candidates-total levelled 0 1 cs (omega (arith, queries, acts, few)) in
       let sum : sum_from 0 (map (candidate_tries levelled kind h) cs) ≡ 0 + total (map (candidate_tries levelled kind h) cs) =
       sum-fits 0 (map (candidate_tries levelled kind h) cs) (omega (arith, queries, acts, few, all)) in
@@ -178,7 +242,7 @@ module _ (kind : Kind) (h : History) (bounded : AreBounded h) where
   abbrev slots-tries : Bool → List PlanLevel → List Candidate → ℕ
   slots-tries levelled levels cs = asked (queried_from 0 h cs) + tries_of (slots_of (cond levelled (map (rank_of kind h) levels) (ranked_from kind 1 (queried_from 0 h cs))))
 
-  both-is : (levelled : Bool) (levels : List PlanLevel) (cs : List Candidate) → length cs ≤ 128 → length levels ≤ 9 → AreFewDevices levels →
+  both-is : (levelled : Bool) (levels : List PlanLevel) (cs : List Candidate) → length cs ≤ MOST_DEVICES → length levels ≤ MOST_LEVELS_OF_TARGET → AreFewDevices levels →
       (capped 32 (sum_from 0 (map (candidate_tries levelled kind h) cs) + ranked_tries levelled kind h levels) ≡ slots-tries levelled levels cs) × (slots-tries levelled levels cs ≤ 6400)
   both-is true levels cs few few_levels few_devices =
       let some : (sum_from 0 (map (candidate_tries true kind h) cs) ≡ asked (queried_from 0 h cs) + 0) × (sum_from 0 (map (candidate_tries true kind h) cs) ≤ 4096) = candidates-is true cs few in
@@ -197,7 +261,7 @@ module _ (kind : Kind) (h : History) (bounded : AreBounded h) where
       (capped_32 (sum_from 0 (map (candidate_tries false kind h) cs) + 0) (omega (arith, most)) ∙ omega (arith, one), omega (arith, one, most))
 
 -- what is counted are the tries of all slots
-pub plan-tries : (kind : Kind) (h : History) (p : Plan) (req : ℕ) (a : Asked) → AreBounded h → length p.candidates ≤ 128 → length p.levels ≤ 9 → AreFewDevices p.levels → a.kind ≡ kind → a.before ≡ h →
+pub plan-tries : (kind : Kind) (h : History) (p : Plan) (req : ℕ) (a : Asked) → AreBounded h → length p.candidates ≤ MOST_DEVICES → length p.levels ≤ MOST_LEVELS_OF_TARGET → AreFewDevices p.levels → a.kind ≡ kind → a.before ≡ h →
     plan_tries kind h p ≡ tries_of (all_slots (operation_by req a p))
 plan-tries kind h p req a bounded few few_levels few_devices k b =
     (both-is kind h bounded (is_levelled p.scope) p.levels p.candidates few few_levels few_devices).0
@@ -205,7 +269,7 @@ plan-tries kind h p req a bounded few few_levels few_devices k b =
     ∙ sym (ap₂ (λ (k : Kind) (h : History). tries_of (all_slots (operation_by req (record a { kind = k; before = h }) p))) k b)
 
 -- which are few
-pub plan-few : (kind : Kind) (h : History) (p : Plan) → AreBounded h → length p.candidates ≤ 128 → length p.levels ≤ 9 → AreFewDevices p.levels → plan_tries kind h p ≤ 6400
+pub plan-few : (kind : Kind) (h : History) (p : Plan) → AreBounded h → length p.candidates ≤ MOST_DEVICES → length p.levels ≤ MOST_LEVELS_OF_TARGET → AreFewDevices p.levels → plan_tries kind h p ≤ 6400
 plan-few kind h p bounded few few_levels few_devices =
     let both : (plan_tries kind h p ≡ slots-tries kind h bounded (is_levelled p.scope) p.levels p.candidates) × (slots-tries kind h bounded (is_levelled p.scope) p.levels p.candidates ≤ 6400) =
     both-is kind h bounded (is_levelled p.scope) p.levels p.candidates few few_levels few_devices in

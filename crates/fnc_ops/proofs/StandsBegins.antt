@@ -1,8 +1,40 @@
 -- The records stand for the journal with the request of an operation that begins.
-use Rattle.std.proofs.Common.{ℕ, List, [], ◌∷◌, ◌++◌, Bool, true, false, ◌≡◌, ◌≤◌, ◌<◌, ◌+◌, ◌==◌, refl, ap, ap₂, sym, ◌∙◌, subst, Option, Some, cond, arith, length, is_some, ne_eqb, eq-eqb, ◌||◌, ◌&&◌, bytes_eq}
+use Rattle.std.proofs.Common.{
+  ℕ,
+  List,
+  [],
+  ◌∷◌,
+  ◌++◌,
+  Bool,
+  true,
+  false,
+  ◌≡◌,
+  ◌≤◌,
+  ◌<◌,
+  ◌+◌,
+  ◌==◌,
+  refl,
+  ap,
+  ap₂,
+  sym,
+  ◌∙◌,
+  subst,
+  Option,
+  Some,
+  cond,
+  arith,
+  length,
+  is_some,
+  ne_eqb,
+  eq-eqb,
+  ◌||◌,
+  ◌&&◌,
+  bytes_eq,
+}
 use Rattle.std.proofs.Math.Bool.{and-false}
 use Rattle.std.specs.Prelude.{find, option_and_then, OnOk, OnErr, Result, Ok, Err}
 use Rattle.std.specs.List.{AllZip, AllByRecursion}
+use Rattle.fnc_journal.specs.declared.limits.TheConstants.{MOST_DEVICES, MOST_LEVELS_OF_TARGET}
 use Rattle.fnc_journal.specs.declared.event.Event.{Event}
 use Rattle.fnc_journal.specs.declared.plan.Plan.{Plan}
 use Rattle.fnc_journal.specs.declared.outcome.NoMemory.{NoMemory}
@@ -26,7 +58,17 @@ use Rattle.fnc_ops.specs.FreshRecords.{unseen_operation, fresh_operation, begun_
 use Rattle.fnc_ops.specs.OpsRecords.{is_of, OthersWait}
 use Rattle.fnc_records.specs.OperationRecords as OperationRecords
 use Rattle.fnc_records.specs.OperationRecords.{ranked_if_queried, ranked_levels}
-use Rattle.fnc_ops.specs.Stands.{IsKept, Stands, StandsFor, AreBounded, AreFewDevices, ask_entry, begun_request, numbers}
+use Rattle.fnc_ops.specs.Stands.{
+  IsKept,
+  Stands,
+  StandsFor,
+  AreBounded,
+  AreFewDevices,
+  ask_entry,
+  begun_request,
+  numbers,
+  AreFewRuns,
+}
 use Rattle.fnc_records.proofs.Zip.{zip_append}
 use Rattle.fnc_ops.proofs.StandsExits.{req-ranked, moment-ranked, members-ranked, confirmed-ranked}
 use Rattle.fnc_ops.proofs.FreshOperations.{planned-bare, operation-fresh, untried-fresh, left-fresh}
@@ -53,7 +95,7 @@ module _ (r : Begun) (p : Plan) (h : History) (client : List ℕ) (lawful : Lawf
   abbrev after : History
   after = ask_entry r.moment (begun_request r client p.scope) ∷ h
 
-  fresh-stands : length p.candidates ≤ 128 → length p.levels ≤ 9 → AreFewDevices p.levels → Stands after (fresh_operation begun) begun
+  fresh-stands : length p.candidates ≤ MOST_DEVICES → length p.levels ≤ MOST_LEVELS_OF_TARGET → AreFewDevices p.levels → Stands after (fresh_operation begun) begun
   fresh-stands few few_levels few_devices =
       let acts_none : acts r.req.0 h ≡ [] = unasked_idle h lawful r.req.0 (omega (arith, number)) in
       let bare = planned-bare (wanted_by r p.scope) h p planned in
@@ -67,6 +109,7 @@ module _ (r : Begun) (p : Plan) (h : History) (client : List ℕ) (lawful : Lawf
         confirmed_is = confirmed-ranked r.moment (unseen_operation begun) ∙ sym (unasked_unconfirmed h lawful begun (omega (arith, number)));
         untried_is = untried_now ∙ sym (ap (untried begun) acts_none);
         enough = omega (arith, untried_now, left);
+        few_runs = subst AreFewRuns (sym acts_none) (λ s. omega arith);
       }
 
   -- the others stand as before
@@ -86,7 +129,7 @@ module _ (r : Begun) (p : Plan) (h : History) (client : List ℕ) (lawful : Lawf
       open-asked h lawful r.moment (begun_request r client p.scope) number
       ∙ ap (λ (q : Plan). open_operations h ++ operation_by r.req.0 (asked_of r p.scope h) q ∷ []) (sym planned)
 
-  pub stands-begun : (v : Kept) → StandsFor v h → length p.candidates ≤ 128 → length p.levels ≤ 9 → AreFewDevices p.levels →
+  pub stands-begun : (v : Kept) → StandsFor v h → length p.candidates ≤ MOST_DEVICES → length p.levels ≤ MOST_LEVELS_OF_TARGET → AreFewDevices p.levels →
       StandsFor (record v { operations = v.operations ++ fresh_operation begun ∷ [] }) after
   stands-begun v s few few_levels few_devices = record {
     each = subst (λ (os : List Operation). AllZip (Stands after) (v.operations ++ fresh_operation begun ∷ []) os) (sym opened)

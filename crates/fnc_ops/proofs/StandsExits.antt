@@ -1,5 +1,37 @@
 -- The records stand for the journal with the exit of a run.
-use Rattle.std.proofs.Common.{ℕ, List, [], ◌∷◌, Bool, true, false, ◌≡◌, ◌≤◌, ◌<◌, ◌+◌, ◌^◌, ◌==◌, refl, ap, ap₂, sym, ◌∙◌, subst, Option, Some, None, cond, not, is_some, arith, length, map, ◌&&◌, eqb-true, eq-eqb}
+use Rattle.std.proofs.Common.{
+  ℕ,
+  List,
+  [],
+  ◌∷◌,
+  Bool,
+  true,
+  false,
+  ◌≡◌,
+  ◌≤◌,
+  ◌<◌,
+  ◌+◌,
+  ◌^◌,
+  ◌==◌,
+  refl,
+  ap,
+  ap₂,
+  sym,
+  ◌∙◌,
+  subst,
+  Option,
+  Some,
+  None,
+  cond,
+  not,
+  is_some,
+  arith,
+  length,
+  map,
+  ◌&&◌,
+  eqb-true,
+  eq-eqb,
+}
 use Rattle.std.proofs.lemmas.Bool.{not-true}
 use Rattle.std.specs.Prelude.{option_map}
 use Rattle.std.specs.List.{AllZip, list_all}
@@ -140,6 +172,7 @@ module _ (h : History) (l : Lawful h) (m : ℕ) (over : Ended) (few : length h +
         confirmed_is = confirmed-ranked m levels_after ∙ s.confirmed_is;
         untried_is = untried-ranked m levels_after ∙ s.untried_is;
         enough = enough-ranked m levels_after (let le : left_levels r.levels ≤ r.untried = s.enough in let same : left_levels levels_after.levels ≡ left_levels r.levels = left-ended st.slot over.exit over.listed r.over m r.levels in omega (arith, le, same));
+        few_runs = s.few_runs;
       } in
       subst (λ xs. IsKept xs (unanswered o.req h) (is_confirmed o h) (operation_ended st.slot over.exit over.listed m r) o) (sym (acts-exit o.req m over st.slot h f)) kept
 

@@ -1,5 +1,39 @@
 -- The records stand for the journal with a request that joins an operation.
-use Rattle.std.proofs.Common.{ℕ, List, [], ◌∷◌, ◌++◌, Bool, true, false, ◌≡◌, ◌<◌, ◌≤◌, ◌+◌, ◌==◌, refl, ap, sym, ◌∙◌, subst, Some, None, cond, not, zero, suc, arith, length, eqb-true, eq-eqb, ne_eqb, get_or, set, nat_lt, position}
+use Rattle.std.proofs.Common.{
+  ℕ,
+  List,
+  [],
+  ◌∷◌,
+  ◌++◌,
+  Bool,
+  true,
+  false,
+  ◌≡◌,
+  ◌<◌,
+  ◌≤◌,
+  ◌+◌,
+  ◌==◌,
+  refl,
+  ap,
+  sym,
+  ◌∙◌,
+  subst,
+  Some,
+  None,
+  cond,
+  not,
+  zero,
+  suc,
+  arith,
+  length,
+  eqb-true,
+  eq-eqb,
+  ne_eqb,
+  get_or,
+  set,
+  nat_lt,
+  position,
+}
 use Rattle.std.proofs.lemmas.Bool.Decides.{nat_tests}
 use Rattle.std.specs.Prelude.{filter, filter_map}
 use Rattle.std.specs.List.{AllZip, AllByRecursion, position_or_len}
@@ -150,10 +184,11 @@ module _ (h : History) (l : Lawful h) (m : ℕ) (q : Request) (next : q.req.0 �
         confirmed_is = s.confirmed_is;
         untried_is = s.untried_is;
         enough = s.enough;
+        few_runs = s.few_runs;
       }
 
   joined-other : (r : KeptOperation) (o : Operation) → (o.req == q.lead.0) ≡ false → Stands h r o → Stands after r o
-  joined-other r o e s = record { operation = s.operation; waiting_are = s.waiting_are ∙ sym (unanswered-other o.req e); confirmed_is = s.confirmed_is; untried_is = s.untried_is; enough = s.enough }
+  joined-other r o e s = record { operation = s.operation; waiting_are = s.waiting_are ∙ sym (unanswered-other o.req e); confirmed_is = s.confirmed_is; untried_is = s.untried_is; enough = s.enough; few_runs = s.few_runs }
 
   others : (rs : List KeptOperation) (os : List Operation) → AllByRecursion (λ (o : Operation). (o.req == q.lead.0) ≡ false) os → AllZip (Stands h) rs os → AllZip (Stands after) rs os
   others [] [] a z = tt

@@ -1,5 +1,25 @@
 -- The operation that a request joins, by the records and by the journal.
-use Rattle.std.proofs.Common.{ℕ, List, [], ◌∷◌, Bool, true, false, ◌≡◌, refl, ap, ap₂, ◌∙◌, Option, Some, None, cond, not, ◌&&◌, bytes_eq}
+use Rattle.std.proofs.Common.{
+  ℕ,
+  List,
+  [],
+  ◌∷◌,
+  Bool,
+  true,
+  false,
+  ◌≡◌,
+  refl,
+  ap,
+  ap₂,
+  ◌∙◌,
+  Option,
+  Some,
+  None,
+  cond,
+  not,
+  ◌&&◌,
+  bytes_eq,
+}
 use Rattle.std.specs.Prelude.{find, option_map, unwrap_or}
 use Rattle.std.specs.List.{AllZip}
 use Rattle.fnc_journal.specs.declared.entry.Kind.{Kind}

@@ -1,6 +1,30 @@
 -- The records stand for the journal at a later moment.
-use Rattle.std.proofs.Common.{ℕ, List, [], ◌∷◌, Bool, true, false, ◌≡◌, ◌≤◌, ◌==◌, refl, ap, ap₂, sym, ◌∙◌, subst, Option, Some, None, cond, map, nat_lt}
-use Rattle.std.specs.Prelude.{option_map, option_and_then}
+use Rattle.std.proofs.Common.{
+  ℕ,
+  List,
+  [],
+  ◌∷◌,
+  Bool,
+  true,
+  false,
+  ◌≡◌,
+  ◌≤◌,
+  ◌==◌,
+  refl,
+  ap,
+  ap₂,
+  sym,
+  ◌∙◌,
+  subst,
+  Option,
+  Some,
+  None,
+  cond,
+  map,
+  nat_lt,
+  ◌||◌,
+}
+use Rattle.std.specs.Prelude.{option_map, option_and_then, is_none}
 use Rattle.std.specs.List.{AllZip}
 use Rattle.fnc_journal.specs.declared.entry.Req.{Req}
 use Rattle.fnc_journal.specs.History.{History}
@@ -13,9 +37,22 @@ use Rattle.fnc_records.specs.KeptOperation.{KeptOperation}
 use Rattle.fnc_records.specs.SlotFacts.{BothOr}
 use Rattle.fnc_records.specs.SlotRecords.{come_by}
 use Rattle.fnc_records.specs.OperationFacts.{IsOperation}
-use Rattle.fnc_records.specs.OperationRecords.{at_moment, only, standing_slot}
+use Rattle.fnc_records.specs.OperationRecords.{at_moment, standing_slot, at_moment_unless_ending, expired_at}
 use Rattle.fnc_ops.specs.OpsRecords.{expiry_by, expiry_of, sooner, first_expiry, first_expired, moved}
-use Rattle.fnc_ops.specs.Stands.{Stands, StandEach, AreAt, AreBy, Ending, ending, ending_of, sooner_ending, first_ending, first_ended, numbers}
+use Rattle.fnc_ops.specs.Stands.{
+  Stands,
+  StandEach,
+  AreAt,
+  AreBy,
+  Ending,
+  ending,
+  ending_of,
+  sooner_ending,
+  first_ending,
+  first_ended,
+  numbers,
+  AreAtButEnding,
+}
 use Rattle.fnc_records.proofs.OperationAnswers.{IsShortSlot, standing_slot_is}
 use Rattle.fnc_records.proofs.OperationSteps.{operation-later}
 use Rattle.fnc_ops.proofs.StandsExits.{moment-ranked, members-ranked, confirmed-ranked, untried-ranked, enough-ranked}
@@ -68,10 +105,12 @@ later-one h m r o le s = record {
   confirmed_is = confirmed-ranked m (record r { moment = m }) ∙ s.confirmed_is;
   untried_is = untried-ranked m (record r { moment = m }) ∙ s.untried_is;
   enough = enough-ranked m (record r { moment = m }) s.enough;
+  few_runs = s.few_runs;
 }
 
-later-of : (h : History) (m req : ℕ) (r : KeptOperation) (o : Operation) → r.moment ≤ m → Stands h r o → Stands h (only req (at_moment m) r) o
-later-of h m req r o le s = go (r.req == req)
+later-of : (h : History) (m req : ℕ) (r : KeptOperation) (o : Operation) → r.moment ≤ m → Stands h r o →
+    Stands h (at_moment_unless_ending req m r) o
+later-of h m req r o le s = go ((r.req == req) || is_none (expired_at m r))
   where
     go : (b : Bool) → Stands h (cond b (at_moment m r) r) o
     go true = later-one h m r o le s
@@ -86,8 +125,42 @@ later-each h m f k (r ∷ rs) (o ∷ os) a z = (k r o a.0 z.0, later-each h m f 
 
 pub stands-moved : (h : History) (m : ℕ) (rs : List KeptOperation) (x : Option Req) → AreBy m rs → StandEach rs h → StandEach (moved x m rs) h
 stands-moved h m rs None a z = later-each h m (at_moment m) (later-one h m) rs (open_operations h) a z
-stands-moved h m rs (Some req) a z = later-each h m (only req.0 (at_moment m)) (later-of h m req.0) rs (open_operations h) a z
+stands-moved h m rs (Some req) a z =
+    later-each h m (at_moment_unless_ending req.0 m) (later-of h m req.0) rs (open_operations h) a z
 
 pub all-moved : (m : ℕ) (rs : List KeptOperation) → AreAt m (map (at_moment m) rs)
 all-moved m [] = tt
 all-moved m (r ∷ rs) = (moment-ranked m (record r { moment = m }), all-moved m rs)
+
+-- a record of which nothing comes to its end speaks at the moment
+module _ (h : History) (m : ℕ) where
+  abbrev IsAtOrEnds : KeptOperation → Operation → Type 0
+  IsAtOrEnds r o = ending_of h r.moment m o ≡ None → r.moment ≡ m
+
+  none-ends : (r : KeptOperation) (x : Option ℕ) → is_none x ≡ false → option_map shown (expiry_by r x) ≡ None → ⊥
+  none-ends r None k e = cc
+  none-ends r (Some at) k e = cc
+
+  unless-ending : (req : ℕ) (r : KeptOperation) (o : Operation) → Stands h r o →
+      IsAtOrEnds (at_moment_unless_ending req m r) o
+  unless-ending req r o s = go (r.req == req) (is_none (expired_at m r)) refl
+    where
+      go : (b c : Bool) → is_none (expired_at m r) ≡ c → IsAtOrEnds (cond (b || c) (at_moment m r) r) o
+      go true c k e = moment-ranked m (record r { moment = m })
+      go false true k e = moment-ranked m (record r { moment = m })
+      go false false k e = absurd (none-ends r (expired_at m r) k (ending-is h m r o s ∙ e))
+
+  each-moved : (x : Option Req) (rs : List KeptOperation) (os : List Operation) → AllZip (Stands h) rs os →
+      AllZip IsAtOrEnds (moved x m rs) os
+  each-moved None [] [] z = tt
+  each-moved (Some req) [] [] z = tt
+  each-moved None [] (o ∷ os) z = absurd z
+  each-moved (Some req) [] (o ∷ os) z = absurd z
+  each-moved None (r ∷ rs) [] z = absurd z
+  each-moved (Some req) (r ∷ rs) [] z = absurd z
+  each-moved None (r ∷ rs) (o ∷ os) z =
+      ((λ e. moment-ranked m (record r { moment = m })), each-moved None rs os z.1)
+  each-moved (Some req) (r ∷ rs) (o ∷ os) z = (unless-ending req.0 r o z.0, each-moved (Some req) rs os z.1)
+
+  pub others-moved : (x : Option Req) (rs : List KeptOperation) → StandEach rs h → AreAtButEnding h m (moved x m rs)
+  others-moved x rs z = each-moved x rs (open_operations h) z

@@ -1,5 +1,28 @@
 -- A start of the try that an operation waits for takes one entry from what is owed: its run owes an exit, and the try no start and exit any more.
-use Rattle.std.proofs.Common.{ℕ, List, [], ◌∷◌, Bool, true, false, ◌≡◌, ◌≤◌, ◌+◌, ◌*◌, ◌==◌, refl, ap, ap₂, ◌∙◌, subst, Some, cond, arith, length, eqb-true}
+use Rattle.std.proofs.Common.{
+  ℕ,
+  List,
+  [],
+  ◌∷◌,
+  Bool,
+  true,
+  false,
+  ◌≡◌,
+  ◌≤◌,
+  ◌+◌,
+  ◌*◌,
+  ◌==◌,
+  refl,
+  ap,
+  ap₂,
+  ◌∙◌,
+  subst,
+  Some,
+  cond,
+  arith,
+  length,
+  eqb-true,
+}
 use Rattle.std.specs.Prelude.{find, option_and_then, map}
 use Rattle.std.specs.List.{AllZip, AllByRecursion}
 use Rattle.fnc_journal.specs.declared.event.Start.{Start}

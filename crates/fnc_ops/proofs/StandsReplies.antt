@@ -1,5 +1,29 @@
 -- The records stand for the journal with a reply.
-use Rattle.std.proofs.Common.{ℕ, List, [], ◌∷◌, Bool, true, false, ◌≡◌, ◌==◌, ◌&&◌, refl, ap, sym, ◌∙◌, subst, Option, Some, None, cond, not, map, eqb-true, false-eqb}
+use Rattle.std.proofs.Common.{
+  ℕ,
+  List,
+  [],
+  ◌∷◌,
+  Bool,
+  true,
+  false,
+  ◌≡◌,
+  ◌==◌,
+  ◌&&◌,
+  refl,
+  ap,
+  sym,
+  ◌∙◌,
+  subst,
+  Option,
+  Some,
+  None,
+  cond,
+  not,
+  map,
+  eqb-true,
+  false-eqb,
+}
 use Rattle.std.specs.Prelude.{filter, filter_map, find, option_map, option_and_then}
 use Rattle.std.specs.List.{AllZip, AllByRecursion, cons_option}
 use Rattle.fnc_journal.specs.declared.entry.Req.{Req}
@@ -97,9 +121,9 @@ stands-rest rs h l p m req answer rest led first z =
     go r o true k s =
         let same : o.req ≡ p = eqb-true o.req p k in
         let now : unanswered o.req (reply_entry m req answer ∷ h) ≡ rest = ap (λ n. unanswered n (reply_entry m req answer ∷ h)) same ∙ unanswered-reply h l p m req.0 answer rest first in
-        record { operation = operation-members r.moment (acts o.req h) r o (rest_of r.members) s.operation; waiting_are = rest_numbers r.members req.0 rest (s.waiting_are ∙ ap (λ n. unanswered n h) same ∙ first) ∙ sym now; confirmed_is = s.confirmed_is; untried_is = s.untried_is; enough = s.enough }
+        record { operation = operation-members r.moment (acts o.req h) r o (rest_of r.members) s.operation; waiting_are = rest_numbers r.members req.0 rest (s.waiting_are ∙ ap (λ n. unanswered n h) same ∙ first) ∙ sym now; confirmed_is = s.confirmed_is; untried_is = s.untried_is; enough = s.enough; few_runs = s.few_runs }
     go r o false k s =
-        record { operation = s.operation; waiting_are = s.waiting_are ∙ sym (unanswered-other_reply h l o.req p m req answer led (false-eqb o.req p (sym k))); confirmed_is = s.confirmed_is; untried_is = s.untried_is; enough = s.enough }
+        record { operation = s.operation; waiting_are = s.waiting_are ∙ sym (unanswered-other_reply h l o.req p m req answer led (false-eqb o.req p (sym k))); confirmed_is = s.confirmed_is; untried_is = s.untried_is; enough = s.enough; few_runs = s.few_runs }
 
     each : (r : KeptOperation) (o : Operation) → Stands h r o → Stands (reply_entry m req answer ∷ h) (only p OperationRecords.replied r) o
     each r o s =

@@ -1,7 +1,41 @@
 -- The records stand for the journal with the entry of a call added.
-use Rattle.std.proofs.Common.{ℕ, List, [], ◌∷◌, Bool, true, false, ◌≡◌, ◌≤◌, ◌<◌, ◌+◌, ◌-◌, ◌^◌, ◌==◌, refl, ap, ap₂, sym, ◌∙◌, subst, Option, Some, None, cond, is_some, arith, length, map, ◌&&◌, bytes_eq}
+use Rattle.std.proofs.Common.{
+  ℕ,
+  List,
+  [],
+  ◌∷◌,
+  Bool,
+  true,
+  false,
+  ◌≡◌,
+  ◌≤◌,
+  ◌<◌,
+  ◌+◌,
+  ◌-◌,
+  ◌^◌,
+  ◌==◌,
+  refl,
+  ap,
+  ap₂,
+  sym,
+  ◌∙◌,
+  subst,
+  Option,
+  Some,
+  None,
+  cond,
+  is_some,
+  arith,
+  length,
+  map,
+  ◌&&◌,
+  bytes_eq,
+}
 use Rattle.std.proofs.lemmas.Bool.Decides.{nat_tests}
 use Rattle.std.specs.List.{AllZip, AllByRecursion}
+use Rattle.fnc_journal.specs.declared.limits.TheConstants.{MOST_TRIES}
+use Rattle.fnc_journal.specs.Same.{same_slot}
+use Rattle.fnc_journal.proofs.AliveRuns.{slot_same}
 use Rattle.fnc_journal.specs.declared.event.Confirmation.{Confirmation}
 use Rattle.fnc_journal.specs.declared.event.Start.{Start}
 use Rattle.fnc_journal.specs.History.{History}
@@ -20,9 +54,29 @@ use Rattle.fnc_records.specs.KeptOperation.{KeptOperation}
 use Rattle.fnc_records.specs.SlotFacts.{BothOr, last_of}
 use Rattle.fnc_records.specs.LevelFacts.{AreFew}
 use Rattle.fnc_records.specs.LevelRecords.{level_started}
-use Rattle.fnc_records.specs.OperationRecords.{is_idle, standing_slot, started_at, start_standing, operation_started, operation_confirmed, only}
+use Rattle.fnc_records.specs.OperationRecords.{
+  is_idle,
+  standing_slot,
+  started_at,
+  start_standing,
+  operation_started,
+  operation_confirmed,
+  only,
+}
 use Rattle.fnc_records.specs.OperationFacts.{IsOperation, left_levels}
-use Rattle.fnc_ops.specs.Stands.{IsKept, Stands, StandEach, AreAt, Try, EachAwaits, try_of, start_entry, of_try, confirm_entry}
+use Rattle.fnc_ops.specs.Stands.{
+  IsKept,
+  Stands,
+  StandEach,
+  AreAt,
+  Try,
+  EachAwaits,
+  try_of,
+  start_entry,
+  of_try,
+  confirm_entry,
+  AreFewRuns,
+}
 use Rattle.fnc_records.proofs.OperationAnswers.{IsShortSlot, standing_slot_is}
 use Rattle.fnc_records.proofs.OperationSteps.{operation-started}
 use Rattle.fnc_records.proofs.StandingSlots.{standing-free, levels-free, standing-query}
@@ -70,7 +124,7 @@ module _ (h : History) (m : ℕ) (start : Start) (y : Try) where
       has-left : (s : SlotRecord) → IsShortSlot o (acts o.req h) s y.task → HasLeft s
       has-left s b =
           let fewer : runs y.task.slot (acts o.req h) < tries y.task = has.left (idle-now o w) in
-          let most : tries y.task ≤ 16 = has.most in
+          let most : tries y.task ≤ MOST_TRIES = has.most in
           let had : s.runs ≡ runs y.task.slot (acts o.req h) = b.is.runs_are in
           let allowed : s.tries ≡ tries y.task = b.is.tries_is in
           (omega (arith, fewer, had, allowed), omega (arith, most, allowed))
@@ -78,6 +132,22 @@ module _ (h : History) (m : ℕ) (start : Start) (y : Try) where
       go : (x : Option SlotRecord) → standing_slot m r ≡ x → BothOr (IsShortSlot o (acts o.req h)) x (Some y.task) → left_levels (map (level_started y.task.slot m) r.levels) + 1 ≤ left_levels r.levels
       go None e b = absurd b
       go (Some s) e b = subst (λ w. left_levels (map (level_started w m) r.levels) + 1 ≤ left_levels r.levels) b.is.slot (left-started m m r s e (has-left s b))
+
+  -- and leaves few runs of each slot
+  runs-started : (r : KeptOperation) (o : Operation) → IsAt h m r o → try_of h m o ≡ Some y →
+      AreFewRuns (Act.Begun m start.run.0 y.task.slot ∷ acts o.req h)
+  runs-started r o k w s = go (same_slot s y.task.slot) refl
+    where
+      one-more : runs y.task.slot (acts o.req h) + 1 ≤ MOST_TRIES
+      one-more =
+          let has : HasTries (acts o.req h) y.task = tries-at h m r o k y.task (ready-for h m o y w).stands in
+          let fewer : runs y.task.slot (acts o.req h) < tries y.task = has.left (idle-now o w) in
+          let most : tries y.task ≤ MOST_TRIES = has.most in
+          omega (arith, fewer, most)
+
+      go : (b : Bool) → same_slot s y.task.slot ≡ b → cond b (runs s (acts o.req h) + 1) (runs s (acts o.req h)) ≤ MOST_TRIES
+      go true e = subst (λ w. runs w (acts o.req h) + 1 ≤ MOST_TRIES) (sym (slot_same s y.task.slot e)) one-more
+      go false e = k.stands.few_runs s
 
   module _ (few : length h + 1 < 2 ^ 32) (early : m < 2 ^ 63) where
     started-one : (r : KeptOperation) (o : Operation) → IsAt h m r o → try_of h m o ≡ Some y → (o.req == start.req.0) ≡ true → Stands after (start_standing m r) o
@@ -99,6 +169,7 @@ module _ (h : History) (m : ℕ) (start : Start) (y : Try) where
           confirmed_is = s.confirmed_is;
           untried_is = ap (λ n. n - 1) s.untried_is ∙ one_less o (acts o.req h);
           enough = omega (arith, less, enough);
+          few_runs = runs-started r o k w;
         } in
         subst (λ w. Stands after w o) (sym slot)
         (subst (λ xs. IsKept xs (unanswered o.req h) (is_confirmed o h) (operation_started y.task.slot m r) o) (sym (acts-start o.req m (of_try y start) h same)) kept)
@@ -162,8 +233,8 @@ module _ (h : History) (m : ℕ) (word : Confirmation) where
       }
 
       go : (b : Bool) → bytes_eq o.target word.target ≡ b → Stands told (cond b (record r { confirmed = true }) r) o
-      go true e = record { operation = same_operation s.operation; waiting_are = s.waiting_are; confirmed_is = rw (e, a) refl; untried_is = s.untried_is; enough = s.enough }
-      go false e = record { operation = s.operation; waiting_are = s.waiting_are; confirmed_is = rw e s.confirmed_is; untried_is = s.untried_is; enough = s.enough }
+      go true e = record { operation = same_operation s.operation; waiting_are = s.waiting_are; confirmed_is = rw (e, a) refl; untried_is = s.untried_is; enough = s.enough; few_runs = s.few_runs }
+      go false e = record { operation = s.operation; waiting_are = s.waiting_are; confirmed_is = rw e s.confirmed_is; untried_is = s.untried_is; enough = s.enough; few_runs = s.few_runs }
 
   confirmed-all : (rs : List KeptOperation) (os : List Operation) → AllZip (Stands h) rs os → AllByRecursion (λ (o : Operation). is_some (asked o.req h) ≡ true) os → AllZip (Stands told) (map (operation_confirmed word.target) rs) os
   confirmed-all [] [] z a = tt

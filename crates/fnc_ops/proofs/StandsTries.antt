@@ -1,8 +1,32 @@
 -- Where an operation stands and which try it waits for, by its record and by the journal.
-use Rattle.std.proofs.Common.{ℕ, List, [], ◌∷◌, true, false, ◌≡◌, ◌≤◌, ◌<◌, ◌^◌, ◌==◌, refl, ap, sym, ◌∙◌, subst, Option, Some, None, cond, is_some, arith}
+use Rattle.std.proofs.Common.{
+  ℕ,
+  List,
+  [],
+  ◌∷◌,
+  true,
+  false,
+  ◌≡◌,
+  ◌≤◌,
+  ◌<◌,
+  ◌^◌,
+  ◌==◌,
+  refl,
+  ap,
+  sym,
+  ◌∙◌,
+  subst,
+  Option,
+  Some,
+  None,
+  cond,
+  is_some,
+  arith,
+}
 use Rattle.std.proofs.lemmas.Bool.{not-true}
 use Rattle.std.specs.Prelude.{find, option_and_then, unwrap_or}
 use Rattle.std.specs.List.{AllZip, AllByRecursion, list_any}
+use Rattle.fnc_journal.specs.declared.limits.TheConstants.{MOST_TRIES}
 use Rattle.fnc_journal.specs.History.{History}
 use Rattle.fnc_journal.specs.Slots.{Task, Operation, tries}
 use Rattle.fnc_journal.specs.Acts.{Act, Last, acts, runs, last_run}
@@ -20,10 +44,23 @@ use Rattle.fnc_records.specs.OperationRecords.{is_idle, standing_at, standing_sl
 use Rattle.fnc_records.specs.OperationFacts.{IsOperation, IsStandingAt, IsStanding, last_begun}
 use Rattle.fnc_ops.specs.OpsRecords as OpsRecords
 use Rattle.fnc_ops.specs.OpsRecords.{is_of}
-use Rattle.fnc_ops.specs.Stands.{Stands, StandEach, AreAt, IsStandingAtMoment, IsStandingOf, Try, IsTry, IsTryOf, try_of, try_at, try_ready}
+use Rattle.fnc_ops.specs.Stands.{
+  Stands,
+  StandEach,
+  AreAt,
+  IsStandingAtMoment,
+  IsStandingOf,
+  Try,
+  IsTry,
+  IsTryOf,
+  try_of,
+  try_at,
+  try_ready,
+  SpeaksAt,
+}
 use Rattle.fnc_records.proofs.EarlyMoments.{since-early}
 use Rattle.fnc_records.proofs.OperationAnswers.{IsShortSlot, standing_slot_is, standing_at_is, standing_is}
-use Rattle.fnc_records.proofs.Searches.{none-each}
+use Rattle.fnc_records.proofs.Searches.{none-each, found-passes}
 use Rattle.fnc_records.proofs.SlotAnswers.{Agrees, last-agrees}
 use Rattle.fnc_ops.proofs.Tries.{HasTries, not-over, standing-tries}
 use Rattle.fnc_records.proofs.Zip.{zip_find}
@@ -34,6 +71,12 @@ pub record IsAt (h : History) (m : ℕ) (r : KeptOperation) (o : Operation) : Ty
   pub at : r.moment ≡ m
   pub found : operation o.req h ≡ Some o
   pub calm : is_due h m o ≡ false
+
+-- what is known of an open operation and of its record, which speaks at a moment if it has a number
+record IsSpeaking (h : History) (m req : ℕ) (r : KeptOperation) (o : Operation) : Type 0 where
+  pub stands : Stands h r o
+  pub at : (r.req == req) ≡ true → r.moment ≡ m
+  pub found : operation o.req h ≡ Some o
 
 module _ (h : History) (m : ℕ) where
   zip-at : (rs : List KeptOperation) (os : List Operation) → AllZip (Stands h) rs os → AreAt m rs → AllByRecursion (λ (o : Operation). operation o.req h ≡ Some o) os → AllByRecursion (λ o. is_due h m o ≡ false) os →
@@ -60,26 +103,45 @@ module _ (h : History) (m : ℕ) where
   few-runs r o k t e =
       let both = tries-at r o k t e in
       let few : runs t.slot (acts o.req h) ≤ tries t = both.few in
-      let most : tries t ≤ 16 = both.most in
+      let most : tries t ≤ MOST_TRIES = both.most in
       omega (arith, few, most)
 
   early-at : Lawful h → (r : KeptOperation) (o : Operation) → IsAt h m r o → since o m (acts o.req h) < 2 ^ 63
   early-at l r o k = since-early h l m r o k.found (operation-at r o k.stands k.at)
 
-  -- where it stands
-  standing-at : Lawful h → (r : KeptOperation) (o : Operation) → IsAt h m r o → IsStandingAtMoment h m (OperationRecords.standing r.moment r) (Some o)
-  standing-at l r o k =
-      subst (λ n. IsStanding o m (acts o.req h) (OperationRecords.standing n r) (stands_at h m o)) (sym k.at)
-      (standing_is o m (acts o.req h) r (operation-at r o k.stands k.at) (early-at l r o k) (few-runs r o k))
+  -- where it stands, whether an answer is due or not
+  standing-at : Lawful h → (r : KeptOperation) (o : Operation) → Stands h r o → r.moment ≡ m →
+      operation o.req h ≡ Some o → IsStandingAtMoment h m (OperationRecords.standing r.moment r) (Some o)
+  standing-at l r o s at found =
+      let now : IsOperation m (acts o.req h) r o = operation-at r o s at in
+      subst (λ n. IsStanding o m (acts o.req h) (OperationRecords.standing n r) (stands_at h m o)) (sym at)
+      (standing_is o m (acts o.req h) r now (since-early h l m r o found now)
+      (λ t e. let few : runs t.slot (acts o.req h) ≤ MOST_TRIES = s.few_runs t.slot in omega (arith, few)))
 
-  pub standing_found : Lawful h → (req : ℕ) (rs : List KeptOperation) → settled h m ≡ true → AreAt m rs → StandEach rs h → IsStandingOf h m req (OpsRecords.standing req rs)
-  standing_found l req rs s a z = go (find (is_of req) rs) (find (λ o. o.req == req) (open_operations h)) (found-at req rs s a z)
+  zip-speaking : (req : ℕ) (rs : List KeptOperation) (os : List Operation) → AllZip (Stands h) rs os →
+      SpeaksAt m req rs → AllByRecursion (λ (o : Operation). operation o.req h ≡ Some o) os →
+      AllZip (IsSpeaking h m req) rs os
+  zip-speaking req [] [] z a f = tt
+  zip-speaking req [] (o ∷ os) z a f = absurd z
+  zip-speaking req (r ∷ rs) [] z a f = absurd z
+  zip-speaking req (r ∷ rs) (o ∷ os) z a f =
+      (record { stands = z.0; at = a.0; found = f.0 }, zip-speaking req rs os z.1 a.1 f.1)
+
+  pub standing_found : Lawful h → (req : ℕ) (rs : List KeptOperation) → SpeaksAt m req rs → StandEach rs h →
+      IsStandingOf h m req (OpsRecords.standing req rs)
+  standing_found l req rs a z =
+      go (find (is_of req) rs) (find (λ o. o.req == req) (open_operations h)) refl
+      (zip_find (IsSpeaking h m req) (is_of req) (λ o. o.req == req)
+      (λ r o k. ap (λ n. n == req) k.stands.operation.req) rs (open_operations h)
+      (zip-speaking req rs (open_operations h) z a (open-found h)))
     where
-      go : (x : Option KeptOperation) (y : Option Operation) → BothOr (IsAt h m) x y → IsStandingAtMoment h m (option_and_then (λ o. OperationRecords.standing o.moment o) x) y
-      go None None b = refl
-      go None (Some o) b = absurd b
-      go (Some r) None b = absurd b
-      go (Some r) (Some o) b = standing-at l r o b
+      go : (x : Option KeptOperation) (y : Option Operation) → find (is_of req) rs ≡ x →
+          BothOr (IsSpeaking h m req) x y →
+          IsStandingAtMoment h m (option_and_then (λ o. OperationRecords.standing o.moment o) x) y
+      go None None e b = refl
+      go None (Some o) e b = absurd b
+      go (Some r) None e b = absurd b
+      go (Some r) (Some o) e b = standing-at l r o b.stands (b.at (found-passes (is_of req) rs r e)) b.found
 
   -- whether no run of its slot is alive
   idle_by : (o : Operation) (xs : List Act) (t : Task) (begun : ℕ) (l : LastRun) (k : Last) → Agrees begun l k → is_idle l ≡ is_some (ready_after o m xs t k)

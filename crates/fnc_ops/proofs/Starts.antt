@@ -1,5 +1,28 @@
 -- A start of the try that an operation waits for makes no answer due, and afterwards the operation waits for none.
-use Rattle.std.proofs.Common.{ℕ, List, [], ◌∷◌, Bool, true, false, ◌≡◌, ◌==◌, refl, ap, sym, ◌∙◌, subst, Option, Some, None, cond, not, is_some, map, eqb-true}
+use Rattle.std.proofs.Common.{
+  ℕ,
+  List,
+  [],
+  ◌∷◌,
+  Bool,
+  true,
+  false,
+  ◌≡◌,
+  ◌==◌,
+  refl,
+  ap,
+  sym,
+  ◌∙◌,
+  subst,
+  Option,
+  Some,
+  None,
+  cond,
+  not,
+  is_some,
+  map,
+  eqb-true,
+}
 use Rattle.std.specs.Prelude.{find, option_and_then, unwrap_or}
 use Rattle.std.specs.List.{AllZip, AllByRecursion}
 use Rattle.fnc_journal.specs.declared.event.Start.{Start}
@@ -27,7 +50,18 @@ use Rattle.fnc_records.specs.OperationRecords.{only, start_standing, standing_sl
 use Rattle.fnc_records.specs.OperationFacts.{IsOperation}
 use Rattle.fnc_ops.specs.OpsRecords as OpsRecords
 use Rattle.fnc_ops.specs.OpsRecords.{is_of}
-use Rattle.fnc_ops.specs.Stands.{Stands, StandEach, AreAt, Try, AwaitsTry, EachAwaits, try_of, try_at, try_ready, start_entry}
+use Rattle.fnc_ops.specs.Stands.{
+  Stands,
+  StandEach,
+  AreAt,
+  Try,
+  AwaitsTry,
+  EachAwaits,
+  try_of,
+  try_at,
+  try_ready,
+  start_entry,
+}
 use Rattle.fnc_records.proofs.EarlyMoments.{queries-short, ranks-short}
 use Rattle.fnc_records.proofs.OperationAnswers.{IsShortSlot, standing_slot_is}
 use Rattle.fnc_records.proofs.Searches.{found-passes}

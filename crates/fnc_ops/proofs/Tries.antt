@@ -1,10 +1,38 @@
 -- The slot at which an operation stands was started no more often than is allowed, while no answer is due; where no run of it is alive it has a try left.
-use Rattle.std.proofs.Common.{ℕ, List, [], ◌∷◌, Bool, true, false, ◌≡◌, ◌≤◌, ◌<◌, ◌+◌, ◌==◌, ◌&&◌, refl, ap, sym, subst, Option, Some, None, cond, not, is_some, nat_le, arith, false-eqb}
+use Rattle.std.proofs.Common.{
+  ℕ,
+  List,
+  [],
+  ◌∷◌,
+  Bool,
+  true,
+  false,
+  ◌≡◌,
+  ◌≤◌,
+  ◌<◌,
+  ◌+◌,
+  ◌==◌,
+  ◌&&◌,
+  refl,
+  ap,
+  sym,
+  subst,
+  Option,
+  Some,
+  None,
+  cond,
+  not,
+  is_some,
+  nat_le,
+  arith,
+  false-eqb,
+}
 use Rattle.std.proofs.lemmas.Bool.{or_parts}
 use Rattle.std.proofs.lemmas.Bool.Decides.{nat_tests}
 use Rattle.std.specs.Prelude.{option_map}
 use Rattle.std.specs.List.{list_all}
 use Rattle.std.specs.Option.{option_or}
+use Rattle.fnc_journal.specs.declared.limits.TheConstants.{MOST_TRIES}
 use Rattle.fnc_journal.specs.declared.entry.Answer.{Answer}
 use Rattle.fnc_journal.specs.History.{History}
 use Rattle.fnc_journal.specs.Missing.{has_come}
@@ -62,7 +90,7 @@ not-over h m o e = go (is_confirmed o h && cuts_power o.kind) e
 pub record HasTries (xs : List Act) (t : Task) : Type 0 where
   pub few : runs t.slot xs ≤ tries t
   pub left : is_idle (last_of t.slot xs) ≡ true → runs t.slot xs < tries t
-  pub most : tries t ≤ 16
+  pub most : tries t ≤ MOST_TRIES
 
 -- of the slot at which the operation stands
 module _ (o : Operation) (m : ℕ) (xs : List Act) (early : m < o.over) where

@@ -1,5 +1,29 @@
 -- While a slot has neither succeeded nor come to its end or the total, each of its runs has failed or is alive.
-use Rattle.std.proofs.Common.{ℕ, List, [], ◌∷◌, Bool, true, false, ◌≡◌, ◌≤◌, ◌<◌, ◌+◌, ◌&&◌, refl, ap, ◌∙◌, Option, Some, None, cond, not, is_some, min, arith}
+use Rattle.std.proofs.Common.{
+  ℕ,
+  List,
+  [],
+  ◌∷◌,
+  Bool,
+  true,
+  false,
+  ◌≡◌,
+  ◌≤◌,
+  ◌<◌,
+  ◌+◌,
+  ◌&&◌,
+  refl,
+  ap,
+  ◌∙◌,
+  Option,
+  Some,
+  None,
+  cond,
+  not,
+  is_some,
+  min,
+  arith,
+}
 use Rattle.std.proofs.lemmas.Bool.{or_parts}
 use Rattle.std.proofs.lemmas.Bool.Decides.{nat_tests}
 use Rattle.std.specs.Prelude.{option_map, unwrap_or}

@@ -1,6 +1,29 @@
 -- What an operation waits for, at which moments the records speak and which numbers they have,
 -- after a change of one record or of all.
-use Rattle.std.proofs.Common.{ℕ, List, [], ◌∷◌, Bool, true, false, ◌≡◌, ◌==◌, refl, ap, ap₂, sym, ◌∙◌, Option, Some, None, cond, map, eqb-true, eq-eqb, ne_eqb}
+use Rattle.std.proofs.Common.{
+  ℕ,
+  List,
+  [],
+  ◌∷◌,
+  Bool,
+  true,
+  false,
+  ◌≡◌,
+  ◌==◌,
+  refl,
+  ap,
+  ap₂,
+  sym,
+  ◌∙◌,
+  Option,
+  Some,
+  None,
+  cond,
+  map,
+  eqb-true,
+  eq-eqb,
+  ne_eqb,
+}
 use Rattle.std.specs.Prelude.{filter, find, option_and_then, bytes_eq}
 use Rattle.std.specs.List.{AllZip, AllByRecursion}
 use Rattle.fnc_journal.specs.declared.entry.Exit.{Exit}

@@ -1,5 +1,6 @@
 -- The records stand for the journal with the start.
 use Rattle.std.proofs.Common.{◌≡◌, ◌∷◌, ◌∙◌, ◌≤◌, ◌<◌, ◌+◌, ◌^◌, ℕ, map, refl, sym, ap, subst, arith, length}
+use Rattle.fnc_journal.specs.declared.limits.TheConstants.{GREATEST_MOMENT}
 use Rattle.fnc_journal.specs.declared.event.Start.{Start}
 use Rattle.fnc_journal.specs.declared.entry.Slot.{Slot}
 use Rattle.fnc_journal.specs.History.{History}
@@ -31,7 +32,7 @@ each-started : (c : goal.After-kept_started) (y : Try) → AwaitsTry c.args.jour
     StandEach (map (only c.args.start.now.req.0 (start_standing c.args.moment)) c.args.self.now.operations)
     (start_entry c.args.moment (of_try y c.args.start.now) ∷ c.args.journal.now.history)
 each-started c y awaits =
-    let early : c.args.moment ≤ 10 ^ 15 = c.requires.early in
+    let early : c.args.moment ≤ GREATEST_MOMENT = c.requires.early in
     stands-started c.args.journal.now.history c.args.moment c.args.start.now y c.requires.few (omega (arith, early))
     c.args.self.now.operations c.requires.stands.each c.requires.at c.requires.settled
     (each-awaits c.args.journal.now.history c.args.moment c.args.start.now.req.0 y awaits)
