@@ -61,21 +61,26 @@ use Rattle.fnc_ops.proofs.StandsExits.{moment-ranked, members-ranked, confirmed-
 abbrev shown : Expiry → Ending
 shown e = record { req = e.req.0; at = e.end }
 
-come_of : (o : Operation) (h : History) (m : ℕ) (x : Option SlotRecord) (y : Option Task) → BothOr (IsShortSlot o (acts o.req h)) x y →
+come_of : (o : Operation) (h : History) (m : ℕ) (x : Option SlotRecord) (y : Option Task) →
+    BothOr (IsShortSlot o (acts o.req h)) x y →
     option_and_then (λ (s : SlotRecord). come_by m s.end) x ≡ option_and_then (λ t. come_by m (end t (acts o.req h))) y
 come_of o h m None None b = refl
 come_of o h m None (Some t) b = absurd b
 come_of o h m (Some s) None b = absurd b
 come_of o h m (Some s) (Some t) b = ap (come_by m) b.is.end_is
 
-ending-is : (h : History) (m : ℕ) (r : KeptOperation) (o : Operation) → Stands h r o → option_map shown (expiry_of m r) ≡ ending_of h r.moment m o
-ending-is h m r o s = ap (λ x. option_map shown (expiry_by r x)) (come_of o h m (standing_slot r.moment r) (stands_at h r.moment o) (standing_slot_is o r.moment (acts o.req h) r s.operation)) ∙ go (option_and_then (λ t. come_by m (end t (acts o.req h))) (stands_at h r.moment o))
+ending-is : (h : History) (m : ℕ) (r : KeptOperation) (o : Operation) → Stands h r o →
+    option_map shown (expiry_of m r) ≡ ending_of h r.moment m o
+ending-is h m r o s = ap (λ x. option_map shown (expiry_by r x)) (come_of o h m (standing_slot r.moment r)
+    (stands_at h r.moment o) (standing_slot_is o r.moment (acts o.req h) r s.operation))
+    ∙ go (option_and_then (λ t. come_by m (end t (acts o.req h))) (stands_at h r.moment o))
   where
     go : (x : Option ℕ) → option_map shown (expiry_by r x) ≡ ending o x
     go None = refl
     go (Some at) = ap (λ n. Some (record { req = n; at = at })) s.operation.req
 
-sooner-shown : (a b : Option Expiry) → option_map shown (sooner a b) ≡ sooner_ending (option_map shown a) (option_map shown b)
+sooner-shown : (a b : Option Expiry) → option_map shown (sooner a b) ≡ sooner_ending (option_map shown a)
+    (option_map shown b)
 sooner-shown None b = refl
 sooner-shown (Some a) None = refl
 sooner-shown (Some a) (Some b) = go (nat_lt b.end a.end)
@@ -84,23 +89,30 @@ sooner-shown (Some a) (Some b) = go (nat_lt b.end a.end)
     go true = refl
     go false = refl
 
-first-is : (h : History) (m : ℕ) (rs : List KeptOperation) (os : List Operation) → AllZip (Stands h) rs os → option_map shown (first_expiry m rs) ≡ first_ending h m rs os
+first-is : (h : History) (m : ℕ) (rs : List KeptOperation) (os : List Operation) → AllZip (Stands h) rs os →
+    option_map shown (first_expiry m rs) ≡ first_ending h m rs os
 first-is h m [] [] z = refl
 first-is h m [] (o ∷ os) z = absurd z
 first-is h m (r ∷ rs) [] z = absurd z
-first-is h m (r ∷ rs) (o ∷ os) z = sooner-shown (expiry_of m r) (first_expiry m rs) ∙ ap₂ sooner_ending (ending-is h m r o z.0) (first-is h m rs os z.1)
+first-is h m (r ∷ rs) (o ∷ os) z = sooner-shown (expiry_of m r) (first_expiry m rs) ∙ ap₂ sooner_ending
+    (ending-is h m r o z.0) (first-is h m rs os z.1)
 
-pub first-expired : (h : History) (m : ℕ) (rs : List KeptOperation) (x : Option Req) → x ≡ first_expired m rs → StandEach rs h → option_map (λ (r : Req). r.0) x ≡ first_ended h m rs
-first-expired h m rs x e z = ap (option_map (λ (r : Req). r.0)) e ∙ go (first_expiry m rs) ∙ ap (option_map (λ (e : Ending). e.req)) (first-is h m rs (open_operations h) z)
+pub first-expired : (h : History) (m : ℕ) (rs : List KeptOperation) (x : Option Req) → x ≡ first_expired m rs →
+    StandEach rs h → option_map (λ (r : Req). r.0) x ≡ first_ended h m rs
+first-expired h m rs x e z = ap (option_map (λ (r : Req). r.0)) e ∙ go (first_expiry m rs)
+    ∙ ap (option_map (λ (e : Ending). e.req)) (first-is h m rs (open_operations h) z)
   where
-    go : (y : Option Expiry) → option_map (λ (r : Req). r.0) (option_map (λ (e : Expiry). e.req) y) ≡ option_map (λ (e : Ending). e.req) (option_map shown y)
+    go : (y : Option Expiry) → option_map (λ (r : Req). r.0) (option_map (λ (e : Expiry). e.req) y) ≡ option_map
+        (λ (e : Ending). e.req) (option_map shown y)
     go None = refl
     go (Some e) = refl
 
 -- a record at a later moment
-later-one : (h : History) (m : ℕ) (r : KeptOperation) (o : Operation) → r.moment ≤ m → Stands h r o → Stands h (at_moment m r) o
+later-one : (h : History) (m : ℕ) (r : KeptOperation) (o : Operation) → r.moment ≤ m → Stands h r o →
+    Stands h (at_moment m r) o
 later-one h m r o le s = record {
-  operation = subst (λ n. IsOperation n (acts o.req h) (at_moment m r) o) (sym (moment-ranked m (record r { moment = m }))) (operation-later o r.moment m (acts o.req h) le r s.operation);
+  operation = subst (λ n. IsOperation n (acts o.req h) (at_moment m r) o)
+      (sym (moment-ranked m (record r { moment = m }))) (operation-later o r.moment m (acts o.req h) le r s.operation);
   waiting_are = ap numbers (members-ranked m (record r { moment = m })) ∙ s.waiting_are;
   confirmed_is = confirmed-ranked m (record r { moment = m }) ∙ s.confirmed_is;
   untried_is = untried-ranked m (record r { moment = m }) ∙ s.untried_is;
@@ -116,14 +128,17 @@ later-of h m req r o le s = go ((r.req == req) || is_none (expired_at m r))
     go true = later-one h m r o le s
     go false = s
 
-later-each : (h : History) (m : ℕ) (f : KeptOperation → KeptOperation) → ((r : KeptOperation) (o : Operation) → r.moment ≤ m → Stands h r o → Stands h (f r) o) →
-    (rs : List KeptOperation) (os : List Operation) → AreBy m rs → AllZip (Stands h) rs os → AllZip (Stands h) (map f rs) os
+later-each : (h : History) (m : ℕ) (f : KeptOperation → KeptOperation) → ((r : KeptOperation) (o : Operation) →
+    r.moment ≤ m → Stands h r o → Stands h (f r) o) →
+    (rs : List KeptOperation) (os : List Operation) → AreBy m rs → AllZip (Stands h) rs os →
+    AllZip (Stands h) (map f rs) os
 later-each h m f k [] [] a z = tt
 later-each h m f k [] (o ∷ os) a z = absurd z
 later-each h m f k (r ∷ rs) [] a z = absurd z
 later-each h m f k (r ∷ rs) (o ∷ os) a z = (k r o a.0 z.0, later-each h m f k rs os a.1 z.1)
 
-pub stands-moved : (h : History) (m : ℕ) (rs : List KeptOperation) (x : Option Req) → AreBy m rs → StandEach rs h → StandEach (moved x m rs) h
+pub stands-moved : (h : History) (m : ℕ) (rs : List KeptOperation) (x : Option Req) → AreBy m rs → StandEach rs h →
+    StandEach (moved x m rs) h
 stands-moved h m rs None a z = later-each h m (at_moment m) (later-one h m) rs (open_operations h) a z
 stands-moved h m rs (Some req) a z =
     later-each h m (at_moment_unless_ending req.0 m) (later-of h m req.0) rs (open_operations h) a z

@@ -51,7 +51,6 @@ use Rattle.fnc_records.specs.KeptOperation.{KeptOperation}
 use Rattle.fnc_ops.specs.Kept.{Kept}
 use Rattle.fnc_records.specs.OperationFacts.{IsOperation, IsStanding, left_levels}
 use Rattle.fnc_records.specs.SlotFacts.{BothOr}
-use Rattle.fnc_journal.specs.declared.entry.Exit.{Exit}
 use Rattle.fnc_journal.specs.declared.entry.Answer.{Answer}
 use Rattle.fnc_journal.specs.Missing.{first_of}
 use Rattle.fnc_records.specs.SlotRecords.{come_by}

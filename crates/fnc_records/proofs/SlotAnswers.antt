@@ -79,19 +79,23 @@ last-agrees s [] = tt
 last-agrees s (Act.Begun m run slot ∷ xs) = go (same_slot s slot) (last-agrees s xs)
   where
     go : (b : Bool) → Agrees (last_begun s xs) (last_of s xs) (last_run s xs) →
-        Agrees (unwrap_or (cond b (Some m) None) (last_begun s xs)) (unwrap_or (cond b (Some (LastRun.Alive m)) None) (last_of s xs)) (unwrap_or (cond b (Some (Last.Alive run)) None) (last_run s xs))
+        Agrees (unwrap_or (cond b (Some m) None) (last_begun s xs)) (unwrap_or (cond b (Some (LastRun.Alive m)) None)
+        (last_of s xs)) (unwrap_or (cond b (Some (Last.Alive run)) None) (last_run s xs))
     go true e = refl
     go false e = e
 last-agrees s (Act.Ended m slot exit listed ∷ xs) = go (same_slot s slot) (last-agrees s xs)
   where
     go : (b : Bool) → Agrees (last_begun s xs) (last_of s xs) (last_run s xs) →
-        Agrees (last_begun s xs) (unwrap_or (cond b (Some (LastRun.EndedAt m)) None) (last_of s xs)) (unwrap_or (cond b (Some (Last.EndedAt m)) None) (last_run s xs))
+        Agrees (last_begun s xs) (unwrap_or (cond b (Some (LastRun.EndedAt m)) None) (last_of s xs))
+        (unwrap_or (cond b (Some (Last.EndedAt m)) None) (last_run s xs))
     go true e = refl
     go false e = e
 
-ready_by_last : (o : Operation) (m : ℕ) (xs : List Act) (t : Task) (begun : ℕ) (l : LastRun) (k : Last) → Agrees begun l k → since o m xs + delay t.definition t.kind o.target o.coin < 2 ^ 64 →
+ready_by_last : (o : Operation) (m : ℕ) (xs : List Act) (t : Task) (begun : ℕ) (l : LastRun) (k : Last) →
+    Agrees begun l k → since o m xs + delay t.definition t.kind o.target o.coin < 2 ^ 64 →
     ready_by (since o m xs) (delay t.definition t.kind o.target o.coin) l ≡ unwrap_or (ready_after o m xs t k) begun
-ready_by_last o m xs t begun LastRun.NoRun Last.NoRun a short = capped_64 (since o m xs + delay t.definition t.kind o.target o.coin) short
+ready_by_last o m xs t begun LastRun.NoRun Last.NoRun a short =
+    capped_64 (since o m xs + delay t.definition t.kind o.target o.coin) short
 ready_by_last o m xs t begun (LastRun.Alive at) (Last.Alive run) a short = a
 ready_by_last o m xs t begun (LastRun.EndedAt at) (Last.EndedAt n) a short = a
 ready_by_last o m xs t begun LastRun.NoRun (Last.Alive run) a short = absurd a
@@ -102,10 +106,13 @@ ready_by_last o m xs t begun (LastRun.EndedAt at) Last.NoRun a short = absurd a
 ready_by_last o m xs t begun (LastRun.EndedAt at) (Last.Alive run) a short = absurd a
 
 -- when the next try is ready, or when the run that is alive was started
-pub ready_is : (o : Operation) (m : ℕ) (xs : List Act) (r : SlotRecord) (t : Task) → IsSlot o xs r t → since o m xs + delay t.definition t.kind o.target o.coin < 2 ^ 64 →
+pub ready_is : (o : Operation) (m : ℕ) (xs : List Act) (r : SlotRecord) (t : Task) → IsSlot o xs r t →
+    since o m xs + delay t.definition t.kind o.target o.coin < 2 ^ 64 →
     ready (since o m xs) r ≡ ready_or_begun o m xs t
-ready_is o m xs r t h short = rw (h.delay_is, h.last_is) (ready_by_last o m xs t (last_begun t.slot xs) (last_of t.slot xs) (last_run t.slot xs) (last-agrees t.slot xs) short)
+ready_is o m xs r t h short = rw (h.delay_is, h.last_is) (ready_by_last o m xs t (last_begun t.slot xs)
+    (last_of t.slot xs) (last_run t.slot xs) (last-agrees t.slot xs) short)
 
 -- which of its tries the next one is
-pub attempt_is : (o : Operation) (xs : List Act) (r : SlotRecord) (t : Task) → IsSlot o xs r t → runs t.slot xs < 255 → attempt r ≡ runs t.slot xs + 1
+pub attempt_is : (o : Operation) (xs : List Act) (r : SlotRecord) (t : Task) → IsSlot o xs r t → runs t.slot xs < 255 →
+    attempt r ≡ runs t.slot xs + 1
 attempt_is o xs r t h few = rw h.runs_are (omega arith)

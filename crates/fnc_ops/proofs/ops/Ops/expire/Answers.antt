@@ -8,13 +8,15 @@ use Rattle.fnc_ops.proofs.StandsMoments.{first-expired, stands-moved, all-moved,
 use Rattle.fnc_ops.proofs.ops.Ops.expire.Goals as goal
 
 pub returns-clause-first : goal.returns-clause-first
-returns-clause-first c = first-expired c.args.journal.now.history c.args.moment c.args.self.now.operations c.kept_expired-expired.result c.kept_expired-expired.ensures c.requires.stands.each
+returns-clause-first c = first-expired c.args.journal.now.history c.args.moment c.args.self.now.operations
+    c.kept_expired-expired.result c.kept_expired-expired.ensures c.requires.stands.each
 
 pub returns-clause-stands : goal.returns-clause-stands
 returns-clause-stands c =
     subst (λ (v : Kept). StandsFor v c.args.journal.now.history) (sym c.kept_moved.ensures)
     (record {
-      each = stands-moved c.args.journal.now.history c.args.moment c.args.self.now.operations c.kept_expired-expired.result c.requires.later c.requires.stands.each;
+      each = stands-moved c.args.journal.now.history c.args.moment c.args.self.now.operations
+          c.kept_expired-expired.result c.requires.later c.requires.stands.each;
       alive = c.requires.stands.alive;
     })
 
@@ -35,15 +37,20 @@ returns-clause-others c =
 
 pub returns-clause-all : goal.returns-clause-all
 returns-clause-all c e =
-    subst (AreAt c.args.moment) (sym (ap (λ (v : Kept). v.operations) c.kept_moved.ensures ∙ ap (λ x. moved x c.args.moment c.args.self.now.operations) e)) (all-moved c.args.moment c.args.self.now.operations)
+    subst (AreAt c.args.moment) (sym (ap (λ (v : Kept). v.operations) c.kept_moved.ensures
+    ∙ ap (λ x. moved x c.args.moment c.args.self.now.operations) e))
+    (all-moved c.args.moment c.args.self.now.operations)
 
 pub returns-clause-later : goal.returns-clause-later
-returns-clause-later c = subst (λ (v : Kept). AreBy c.args.moment v.operations) (sym c.kept_moved.ensures) (by-moved c.args.moment c.kept_expired-expired.result c.args.self.now.operations c.requires.later)
+returns-clause-later c = subst (λ (v : Kept). AreBy c.args.moment v.operations) (sym c.kept_moved.ensures)
+    (by-moved c.args.moment c.kept_expired-expired.result c.args.self.now.operations c.requires.later)
 
 pub returns-clause-fewer : goal.returns-clause-fewer
 returns-clause-fewer c req e =
-    subst (λ rs. behind c.args.moment rs < behind c.args.moment c.args.self.now.operations) (sym (returns-clause-moved c ∙ ap (λ x. moved x c.args.moment c.args.self.now.operations) e))
+    subst (λ rs. behind c.args.moment rs < behind c.args.moment c.args.self.now.operations)
+    (sym (returns-clause-moved c ∙ ap (λ x. moved x c.args.moment c.args.self.now.operations) e))
     (fewer-behind c.args.moment c.args.self.now.operations req (sym c.kept_expired-expired.ensures ∙ e))
 
 pub returns-clause-same : goal.returns-clause-same
-returns-clause-same c = ap (λ (v : Kept). map (λ r. r.req) v.operations) c.kept_moved.ensures ∙ numbers-moved c.args.moment c.kept_expired-expired.result c.args.self.now.operations
+returns-clause-same c = ap (λ (v : Kept). map (λ r. r.req) v.operations) c.kept_moved.ensures
+    ∙ numbers-moved c.args.moment c.kept_expired-expired.result c.args.self.now.operations
