@@ -1,13 +1,51 @@
 -- The record of an operation that begins is that of the operation, of which nothing was started yet.
-use Rattle.std.proofs.Common.{ℕ, List, [], ◌∷◌, ◌++◌, Bool, true, false, ◌≡◌, ◌≤◌, ◌+◌, ◌-◌, ◌*◌, refl, ap, ap₂, sym, ◌∙◌, subst, cond, arith, length, map, ◌||◌}
+use Rattle.std.proofs.Common.{
+  ℕ,
+  List,
+  [],
+  ◌∷◌,
+  ◌++◌,
+  Bool,
+  true,
+  false,
+  ◌≡◌,
+  ◌≤◌,
+  ◌+◌,
+  ◌-◌,
+  ◌*◌,
+  refl,
+  ap,
+  ap₂,
+  sym,
+  ◌∙◌,
+  subst,
+  cond,
+  arith,
+  length,
+  map,
+  ◌||◌,
+}
 use Rattle.std.specs.Prelude.{filter_map}
 use Rattle.std.specs.List.{AllZip, list_all}
+use Rattle.fnc_journal.specs.declared.limits.TheConstants.{MOST_DEVICES, MOST_LEVELS_OF_TARGET, MOST_TRIES}
 use Rattle.fnc_journal.specs.declared.entry.Scope.{Scope}
 use Rattle.fnc_journal.specs.declared.plan.Candidate.{Candidate}
 use Rattle.fnc_journal.specs.declared.plan.Plan.{Plan}
 use Rattle.fnc_journal.specs.History.{History}
 use Rattle.fnc_journal.specs.Plan.{Wanted, candidates_by, plan}
-use Rattle.fnc_journal.specs.Slots.{Operation, Rank, QueriedDevice, is_levelled, queries, queried_from, ranked_from, rank_of, slots_of, all_slots, Task}
+use Rattle.fnc_journal.specs.Slots.{
+  Operation,
+  Rank,
+  QueriedDevice,
+  is_levelled,
+  queries,
+  queried_from,
+  ranked_from,
+  rank_of,
+  slots_of,
+  all_slots,
+  Task,
+}
 use Rattle.fnc_journal.specs.Standing.{queries_concluded}
 use Rattle.fnc_journal.specs.Owed.{untried, tries_of}
 use Rattle.fnc_ops.specs.declared.ops.Operation.{Operation as Request}
@@ -16,8 +54,23 @@ use Rattle.fnc_records.specs.KeptLevel.{KeptLevel}
 use Rattle.fnc_records.specs.KeptOperation.{KeptOperation}
 use Rattle.fnc_records.specs.LevelRecords.{is_queried}
 use Rattle.fnc_records.specs.LevelFacts.{IsQuerySlot, IsLevel}
-use Rattle.fnc_records.specs.OperationFacts.{AreDistinct, IsOperation, IsCandidate, kept_queries, tried_levels, left_levels}
-use Rattle.fnc_ops.specs.FreshRecords.{fresh_level, fresh_candidate, fresh_levels, unseen_operation, fresh_operation, begun_by, all_tries_after}
+use Rattle.fnc_records.specs.OperationFacts.{
+  AreDistinct,
+  IsOperation,
+  IsCandidate,
+  kept_queries,
+  tried_levels,
+  left_levels,
+}
+use Rattle.fnc_ops.specs.FreshRecords.{
+  fresh_level,
+  fresh_candidate,
+  fresh_levels,
+  unseen_operation,
+  fresh_operation,
+  begun_by,
+  all_tries_after,
+}
 use Rattle.fnc_ops.specs.Stands.{AreBounded, AreFewDevices}
 use Rattle.fnc_records.proofs.Ranking.{ranks_by}
 use Rattle.fnc_records.proofs.OperationSteps.{rank_by, ranked-once}
@@ -25,14 +78,22 @@ use Rattle.fnc_ops.proofs.StandsExits.{untried-ranked}
 use Rattle.fnc_ops.proofs.FreshFacts.{levels-fresh, candidates-fresh, queries-distinct, queried-few}
 use Rattle.fnc_records.proofs.LeftTries.{left-ranked}
 use Rattle.fnc_ops.proofs.FreshLeft.{levels-left, candidates-left}
-use Rattle.fnc_ops.proofs.FreshTries.{levels-tried, candidates-tried, levels-few, queries-few, acts-few, tries_of-append}
+use Rattle.fnc_ops.proofs.FreshTries.{
+  levels-tried,
+  candidates-tried,
+  levels-few,
+  queries-few,
+  acts-few,
+  tries_of-append,
+}
 
 -- the levels of a plan are all tried, and ask nothing
 levels-asked : (target : List ℕ) (coin : ℕ) (ls : List Rank) → kept_queries (map (fresh_level target coin) ls) ≡ []
 levels-asked target coin [] = refl
 levels-asked target coin (l ∷ ls) = levels-asked target coin ls
 
-levels-tried-all : (target : List ℕ) (coin : ℕ) (ls : List Rank) → tried_levels (map (fresh_level target coin) ls) ≡ map (fresh_level target coin) ls
+levels-tried-all : (target : List ℕ) (coin : ℕ) (ls : List Rank) → tried_levels (map (fresh_level target coin) ls) ≡
+    map (fresh_level target coin) ls
 levels-tried-all target coin [] = refl
 levels-tried-all target coin (l ∷ ls) = ap (λ ks. fresh_level target coin l ∷ ks) (levels-tried-all target coin ls)
 
@@ -43,7 +104,8 @@ bare-by (Scope.Pattern n) cs k = refl
 
 -- a plan with levels has no candidates
 pub planned-bare : (w : Wanted) (h : History) (p : Plan) → p ≡ plan w h → is_levelled p.scope ≡ true → p.candidates ≡ []
-planned-bare w h p e levelled = ap (λ (q : Plan). q.candidates) e ∙ bare-by w.scope _ (ap (λ (q : Plan). is_levelled q.scope) (sym e) ∙ levelled)
+planned-bare w h p e levelled = ap (λ (q : Plan). q.candidates) e ∙ bare-by w.scope _
+    (ap (λ (q : Plan). is_levelled q.scope) (sym e) ∙ levelled)
 
 none_begun : (n : ℕ) → n - 0 ≡ 0 + n
 none_begun n = omega arith
@@ -51,22 +113,29 @@ none_begun n = omega arith
 none_more : (n k : ℕ) → 0 + n + k ≡ n + k - 0
 none_more n k = omega arith
 
-module _ (r : Request) (p : Plan) (h : History) (bounded : AreBounded h) (bare : is_levelled p.scope ≡ true → p.candidates ≡ []) (apart : AreDistinct (slots_of (map (rank_of r.kind h) p.levels))) (few : length p.candidates ≤ 128) where
+module _ (r : Request) (p : Plan) (h : History) (bounded : AreBounded h) (bare : is_levelled p.scope ≡ true →
+    p.candidates ≡ []) (apart : AreDistinct (slots_of (map (rank_of r.kind h) p.levels)))
+    (few : length p.candidates ≤ MOST_DEVICES) where
   abbrev o : Operation
   o = begun_by r p h
 
   -- with candidates
   asked-fresh : is_levelled p.scope ≡ false → IsOperation r.moment [] (fresh_operation o) o
   asked-fresh e =
-      ranked-once o r.moment [] (unseen_operation o) tt tt (queries-distinct 0 h p.candidates) apart refl refl refl refl refl e (record {
+      ranked-once o r.moment [] (unseen_operation o) tt tt (queries-distinct 0 h p.candidates) apart refl refl refl
+      refl refl e (record {
         unlevelled = e;
-        few = (let k : length (queried_from 0 h p.candidates) ≤ length p.candidates = queried-few 0 h p.candidates in omega (arith, k, few));
+        few = (let k : length (queried_from 0 h p.candidates) ≤ length p.candidates = queried-few 0 h p.candidates in
+            omega (arith, k, few));
         queried = tt;
-        candidates = subst (λ (b : Bool). AllZip (IsCandidate o []) (cond b (map (fresh_level r.target r.coin) o.levels) (map (fresh_candidate r.kind r.target r.coin) o.candidates)) o.candidates) (sym e) (candidates-fresh o h bounded 0 p.candidates);
+        candidates = subst (λ (b : Bool). AllZip (IsCandidate o [])
+            (cond b (map (fresh_level r.target r.coin) o.levels) (map (fresh_candidate r.kind r.target r.coin)
+            o.candidates)) o.candidates) (sym e) (candidates-fresh o h bounded 0 p.candidates);
       })
 
   none-asked : is_levelled p.scope ≡ true → queries o ≡ []
-  none-asked e = ap (λ (cs : List Candidate). filter_map (λ (c : QueriedDevice). c.query) (queried_from 0 h cs)) (bare e)
+  none-asked e = ap (λ (cs : List Candidate). filter_map (λ (c : QueriedDevice). c.query) (queried_from 0 h cs))
+      (bare e)
 
   -- with levels
   levelled-fresh : is_levelled p.scope ≡ true → IsOperation r.moment [] (unseen_operation o) o
@@ -81,58 +150,87 @@ module _ (r : Request) (p : Plan) (h : History) (bounded : AreBounded h) (bare :
     distinct = queries-distinct 0 h p.candidates;
     levels_distinct = apart;
     queries_are = subst (AllZip (IsQuerySlot o []) (kept_queries (fresh_levels o))) (sym (none-asked e))
-        (subst (λ (qs : List SlotRecord). AllZip (IsQuerySlot o []) qs []) (sym (ap kept_queries levels ∙ levels-asked r.target r.coin o.levels)) tt);
-    ranks_are = subst (AllZip (IsLevel o []) (tried_levels (fresh_levels o))) (sym (ranks_by o r.moment [] true (queries_concluded o r.moment []) e refl))
-        (subst (λ (ls : List KeptLevel). AllZip (IsLevel o []) ls o.levels) (sym (ap tried_levels levels ∙ levels-tried-all r.target r.coin o.levels)) (levels-fresh o h bounded r.kind p.levels));
+        (subst (λ (qs : List SlotRecord). AllZip (IsQuerySlot o []) qs [])
+        (sym (ap kept_queries levels ∙ levels-asked r.target r.coin o.levels)) tt);
+    ranks_are = subst (AllZip (IsLevel o []) (tried_levels (fresh_levels o)))
+        (sym (ranks_by o r.moment [] true (queries_concluded o r.moment []) e refl))
+        (subst (λ (ls : List KeptLevel). AllZip (IsLevel o []) ls o.levels)
+        (sym (ap tried_levels levels ∙ levels-tried-all r.target r.coin o.levels))
+        (levels-fresh o h bounded r.kind p.levels));
     ranked_is = e ∙ sym (ap (λ b. b || queries_concluded o r.moment []) e);
     unranked = λ f. let wrong : true ≡ false = sym e ∙ f in cc;
   }
     where
       levels : fresh_levels o ≡ map (fresh_level r.target r.coin) o.levels
-      levels = ap (λ b. cond b (map (fresh_level r.target r.coin) o.levels) (map (fresh_candidate r.kind r.target r.coin) o.candidates)) e
+      levels = ap (λ b. cond b (map (fresh_level r.target r.coin) o.levels)
+          (map (fresh_candidate r.kind r.target r.coin) o.candidates)) e
 
   pub operation-fresh : IsOperation r.moment [] (fresh_operation o) o
   operation-fresh = go (is_levelled p.scope) refl
     where
       go : (b : Bool) → is_levelled p.scope ≡ b → IsOperation r.moment [] (fresh_operation o) o
-      go true e = subst (λ (k : KeptOperation). IsOperation r.moment [] k o) (sym (rank_by r.moment (unseen_operation o) true (list_all (is_queried r.moment) (fresh_levels o)) e refl)) (levelled-fresh e)
+      go true e = subst (λ (k : KeptOperation). IsOperation r.moment [] k o)
+          (sym (rank_by r.moment (unseen_operation o) true (list_all (is_queried r.moment) (fresh_levels o)) e refl))
+          (levelled-fresh e)
       go false e = asked-fresh e
 
   -- nothing of it was tried
-  pub untried-fresh : length p.levels ≤ 9 → AreFewDevices p.levels → (fresh_operation o).untried ≡ untried o []
+  pub untried-fresh : length p.levels ≤ MOST_LEVELS_OF_TARGET → AreFewDevices p.levels →
+      (fresh_operation o).untried ≡ untried o []
   untried-fresh few_levels few_devices = untried-ranked r.moment (unseen_operation o) ∙ go (is_levelled p.scope) refl
     where
-      levels : is_levelled p.scope ≡ true → all_tries_after 0 (fresh_levels o) ≡ all_tries_after 0 (map (fresh_level r.target r.coin) o.levels)
-      levels e = ap (λ b. all_tries_after 0 (cond b (map (fresh_level r.target r.coin) o.levels) (map (fresh_candidate r.kind r.target r.coin) o.candidates))) e
+      levels : is_levelled p.scope ≡ true → all_tries_after 0 (fresh_levels o) ≡ all_tries_after 0
+          (map (fresh_level r.target r.coin) o.levels)
+      levels e = ap (λ b. all_tries_after 0 (cond b (map (fresh_level r.target r.coin) o.levels)
+          (map (fresh_candidate r.kind r.target r.coin) o.candidates))) e
 
-      candidates : is_levelled p.scope ≡ false → all_tries_after 0 (fresh_levels o) ≡ all_tries_after 0 (map (fresh_candidate r.kind r.target r.coin) o.candidates)
-      candidates e = ap (λ b. all_tries_after 0 (cond b (map (fresh_level r.target r.coin) o.levels) (map (fresh_candidate r.kind r.target r.coin) o.candidates))) e
+      candidates : is_levelled p.scope ≡ false → all_tries_after 0 (fresh_levels o) ≡ all_tries_after 0
+          (map (fresh_candidate r.kind r.target r.coin) o.candidates)
+      candidates e = ap (λ b. all_tries_after 0 (cond b (map (fresh_level r.target r.coin) o.levels)
+          (map (fresh_candidate r.kind r.target r.coin) o.candidates))) e
 
       go : (b : Bool) → is_levelled p.scope ≡ b → all_tries_after 0 (fresh_levels o) ≡ untried o []
       go true e =
-          let most : tries_of (slots_of o.levels) ≤ 256 * length p.levels = levels-few r.kind h bounded p.levels few_devices in
-          let counted : all_tries_after 0 (map (fresh_level r.target r.coin) o.levels) ≡ 0 + tries_of (slots_of o.levels) = levels-tried r.target r.coin 0 o.levels (omega (arith, most, few_levels)) in
-          let slots : tries_of (all_slots o) ≡ tries_of (slots_of o.levels) = ap₂ (λ (qs : List Task) (b : Bool). tries_of (qs ++ slots_of (cond b o.levels (ranked_from r.kind 1 o.candidates)))) (none-asked e) e in
+          let most : tries_of (slots_of o.levels) ≤ 256 * length p.levels =
+          levels-few r.kind h bounded p.levels few_devices in
+          let counted : all_tries_after 0 (map (fresh_level r.target r.coin) o.levels) ≡ 0 + tries_of
+          (slots_of o.levels) = levels-tried r.target r.coin 0 o.levels (omega (arith, most, few_levels)) in
+          let slots : tries_of (all_slots o) ≡ tries_of (slots_of o.levels) =
+          ap₂ (λ (qs : List Task) (b : Bool). tries_of
+          (qs ++ slots_of (cond b o.levels (ranked_from r.kind 1 o.candidates)))) (none-asked e) e in
           levels e ∙ counted ∙ sym (none_begun (tries_of (slots_of o.levels))) ∙ ap (λ n. n - 0) (sym slots)
       go false e =
-          let asked : tries_of (queries o) ≤ 16 * length p.candidates = queries-few r.kind h bounded 0 p.candidates in
-          let acted : tries_of (slots_of (ranked_from r.kind 1 o.candidates)) ≤ 16 * length p.candidates = acts-few r.kind h bounded 1 0 p.candidates in
-          let counted : all_tries_after 0 (map (fresh_candidate r.kind r.target r.coin) o.candidates) ≡ 0 + tries_of (queries o) + tries_of (slots_of (ranked_from r.kind 1 o.candidates)) =
+          let asked : tries_of (queries o) ≤ MOST_TRIES * length p.candidates =
+          queries-few r.kind h bounded 0 p.candidates in
+          let acted : tries_of (slots_of (ranked_from r.kind 1 o.candidates)) ≤ MOST_TRIES * length p.candidates =
+          acts-few r.kind h bounded 1 0 p.candidates in
+          let counted : all_tries_after 0 (map (fresh_candidate r.kind r.target r.coin) o.candidates) ≡ 0 + tries_of
+          (queries o) + tries_of (slots_of (ranked_from r.kind 1 o.candidates)) =
           candidates-tried r.target r.coin r.kind 0 1 o.candidates (omega (arith, asked, acted, few)) in
-          let slots : tries_of (all_slots o) ≡ tries_of (queries o) + tries_of (slots_of (ranked_from r.kind 1 o.candidates)) =
-          ap (λ (b : Bool). tries_of (queries o ++ slots_of (cond b o.levels (ranked_from r.kind 1 o.candidates)))) e ∙ tries_of-append (queries o) (slots_of (ranked_from r.kind 1 o.candidates)) in
-          candidates e ∙ counted ∙ none_more (tries_of (queries o)) (tries_of (slots_of (ranked_from r.kind 1 o.candidates))) ∙ ap (λ n. n - 0) (sym slots)
+          let slots : tries_of (all_slots o) ≡ tries_of (queries o) + tries_of
+          (slots_of (ranked_from r.kind 1 o.candidates)) =
+          ap (λ (b : Bool). tries_of (queries o ++ slots_of (cond b o.levels (ranked_from r.kind 1 o.candidates)))) e
+          ∙ tries_of-append (queries o) (slots_of (ranked_from r.kind 1 o.candidates)) in
+          candidates e ∙ counted ∙ none_more (tries_of (queries o))
+          (tries_of (slots_of (ranked_from r.kind 1 o.candidates))) ∙ ap (λ n. n - 0) (sym slots)
 
   -- and it has no more tries left than all its slots are allowed
   pub left-fresh : left_levels (fresh_operation o).levels ≤ tries_of (all_slots o)
   left-fresh =
-      let same : left_levels (fresh_operation o).levels ≡ left_levels (fresh_levels o) = left-ranked r.moment (unseen_operation o) in
-      let all : tries_of (all_slots o) ≡ tries_of (queries o) + tries_of (slots_of (cond (is_levelled p.scope) o.levels (ranked_from r.kind 1 o.candidates))) =
-      tries_of-append (queries o) (slots_of (cond (is_levelled p.scope) o.levels (ranked_from r.kind 1 o.candidates))) in
-      let most : left_levels (fresh_levels o) ≤ tries_of (queries o) + tries_of (slots_of (cond (is_levelled p.scope) o.levels (ranked_from r.kind 1 o.candidates))) = go (is_levelled p.scope) in
+      let same : left_levels (fresh_operation o).levels ≡ left_levels (fresh_levels o) =
+      left-ranked r.moment (unseen_operation o) in
+      let all : tries_of (all_slots o) ≡ tries_of (queries o) + tries_of
+      (slots_of (cond (is_levelled p.scope) o.levels (ranked_from r.kind 1 o.candidates))) =
+      tries_of-append (queries o)
+      (slots_of (cond (is_levelled p.scope) o.levels (ranked_from r.kind 1 o.candidates))) in
+      let most : left_levels (fresh_levels o) ≤ tries_of (queries o) + tries_of
+      (slots_of (cond (is_levelled p.scope) o.levels (ranked_from r.kind 1 o.candidates))) =
+      go (is_levelled p.scope) in
       omega (arith, same, all, most)
     where
-      go : (b : Bool) → left_levels (cond b (map (fresh_level r.target r.coin) o.levels) (map (fresh_candidate r.kind r.target r.coin) o.candidates))
+      go : (b : Bool) → left_levels (cond b (map (fresh_level r.target r.coin) o.levels)
+          (map (fresh_candidate r.kind r.target r.coin) o.candidates))
           ≤ tries_of (queries o) + tries_of (slots_of (cond b o.levels (ranked_from r.kind 1 o.candidates)))
-      go true = let most : left_levels (map (fresh_level r.target r.coin) o.levels) ≤ tries_of (slots_of o.levels) = levels-left r.target r.coin o.levels in omega (arith, most)
+      go true = let most : left_levels (map (fresh_level r.target r.coin) o.levels) ≤ tries_of (slots_of o.levels) =
+          levels-left r.target r.coin o.levels in omega (arith, most)
       go false = candidates-left r.target r.coin r.kind 1 o.candidates

@@ -1,8 +1,40 @@
 -- The records stand for the journal with the request of an operation that begins.
-use Rattle.std.proofs.Common.{ℕ, List, [], ◌∷◌, ◌++◌, Bool, true, false, ◌≡◌, ◌≤◌, ◌<◌, ◌+◌, ◌==◌, refl, ap, ap₂, sym, ◌∙◌, subst, Option, Some, cond, arith, length, is_some, ne_eqb, eq-eqb, ◌||◌, ◌&&◌, bytes_eq}
+use Rattle.std.proofs.Common.{
+  ℕ,
+  List,
+  [],
+  ◌∷◌,
+  ◌++◌,
+  Bool,
+  true,
+  false,
+  ◌≡◌,
+  ◌≤◌,
+  ◌<◌,
+  ◌+◌,
+  ◌==◌,
+  refl,
+  ap,
+  ap₂,
+  sym,
+  ◌∙◌,
+  subst,
+  Option,
+  Some,
+  cond,
+  arith,
+  length,
+  is_some,
+  ne_eqb,
+  eq-eqb,
+  ◌||◌,
+  ◌&&◌,
+  bytes_eq,
+}
 use Rattle.std.proofs.Math.Bool.{and-false}
 use Rattle.std.specs.Prelude.{find, option_and_then, OnOk, OnErr, Result, Ok, Err}
 use Rattle.std.specs.List.{AllZip, AllByRecursion}
+use Rattle.fnc_journal.specs.declared.limits.TheConstants.{MOST_DEVICES, MOST_LEVELS_OF_TARGET}
 use Rattle.fnc_journal.specs.declared.event.Event.{Event}
 use Rattle.fnc_journal.specs.declared.plan.Plan.{Plan}
 use Rattle.fnc_journal.specs.declared.outcome.NoMemory.{NoMemory}
@@ -26,7 +58,17 @@ use Rattle.fnc_ops.specs.FreshRecords.{unseen_operation, fresh_operation, begun_
 use Rattle.fnc_ops.specs.OpsRecords.{is_of, OthersWait}
 use Rattle.fnc_records.specs.OperationRecords as OperationRecords
 use Rattle.fnc_records.specs.OperationRecords.{ranked_if_queried, ranked_levels}
-use Rattle.fnc_ops.specs.Stands.{IsKept, Stands, StandsFor, AreBounded, AreFewDevices, ask_entry, begun_request, numbers}
+use Rattle.fnc_ops.specs.Stands.{
+  IsKept,
+  Stands,
+  StandsFor,
+  AreBounded,
+  AreFewDevices,
+  ask_entry,
+  begun_request,
+  numbers,
+  AreFewRuns,
+}
 use Rattle.fnc_records.proofs.Zip.{zip_append}
 use Rattle.fnc_ops.proofs.StandsExits.{req-ranked, moment-ranked, members-ranked, confirmed-ranked}
 use Rattle.fnc_ops.proofs.FreshOperations.{planned-bare, operation-fresh, untried-fresh, left-fresh}
@@ -35,47 +77,60 @@ use Rattle.fnc_ops.proofs.PlannedLevels.{planned-distinct}
 -- no operation to come is confirmed
 unasked_unconfirmed : (h : History) → Lawful h → (o : Operation) → asks h ≤ o.req → is_confirmed o h ≡ false
 unasked_unconfirmed [] l o k = refl
-unasked_unconfirmed (e ∷ before) l o k = ap₂ ◌||◌ (go e.event) (unasked_unconfirmed before l.1 o (less (is_ask e.event) k))
+unasked_unconfirmed (e ∷ before) l o k =
+    ap₂ ◌||◌ (go e.event) (unasked_unconfirmed before l.1 o (less (is_ask e.event) k))
   where
     less : (b : Bool) → cond b (asks before + 1) (asks before) ≤ o.req → asks before ≤ o.req
     less true m = omega (arith, m)
     less false m = m
 
     go : (event : Event) → confirms o before event ≡ false
-    go (Event.Confirm confirmation) = ap (λ (x : Option Asked). bytes_eq o.target confirmation.target && is_some x) (fresh_ask before l.1 o.req (less (is_ask e.event) k)) ∙ and-false (bytes_eq o.target confirmation.target)
+    go (Event.Confirm confirmation) = ap (λ (x : Option Asked). bytes_eq o.target confirmation.target && is_some x)
+        (fresh_ask before l.1 o.req (less (is_ask e.event) k)) ∙ and-false (bytes_eq o.target confirmation.target)
     go _ = refl
 
 -- the operation of a request that begins it
-module _ (r : Begun) (p : Plan) (h : History) (client : List ℕ) (lawful : Lawful h) (number : r.req.0 ≡ asks h) (planned : p ≡ Planned.plan (wanted_by r p.scope) h) (bounded : AreBounded h) where
+module _ (r : Begun) (p : Plan) (h : History) (client : List ℕ) (lawful : Lawful h) (number : r.req.0 ≡ asks h)
+    (planned : p ≡ Planned.plan (wanted_by r p.scope) h) (bounded : AreBounded h) where
   abbrev begun : Operation
   begun = begun_by r p h
 
   abbrev after : History
   after = ask_entry r.moment (begun_request r client p.scope) ∷ h
 
-  fresh-stands : length p.candidates ≤ 128 → length p.levels ≤ 9 → AreFewDevices p.levels → Stands after (fresh_operation begun) begun
+  fresh-stands : length p.candidates ≤ MOST_DEVICES → length p.levels ≤ MOST_LEVELS_OF_TARGET →
+      AreFewDevices p.levels → Stands after (fresh_operation begun) begun
   fresh-stands few few_levels few_devices =
       let acts_none : acts r.req.0 h ≡ [] = unasked_idle h lawful r.req.0 (omega (arith, number)) in
       let bare = planned-bare (wanted_by r p.scope) h p planned in
       let apart = planned-distinct r.kind (wanted_by r p.scope) h p planned in
-      let untried_now : (fresh_operation begun).untried ≡ untried begun [] = untried-fresh r p h bounded bare apart few few_levels few_devices in
-      let left : left_levels (fresh_operation begun).levels ≤ tries_of (all_slots begun) = left-fresh r p h bounded bare apart few in
+      let untried_now : (fresh_operation begun).untried ≡ untried begun [] = untried-fresh r p h bounded bare apart few
+      few_levels few_devices in
+      let left : left_levels (fresh_operation begun).levels ≤ tries_of (all_slots begun) =
+      left-fresh r p h bounded bare apart few in
       record {
-        operation = subst (λ m. IsOperation m (acts r.req.0 h) (fresh_operation begun) begun) (sym (moment-ranked r.moment (unseen_operation begun)))
-            (subst (λ (xs : List Act). IsOperation r.moment xs (fresh_operation begun) begun) (sym acts_none) (operation-fresh r p h bounded bare apart few));
-        waiting_are = ap numbers (members-ranked r.moment (unseen_operation begun)) ∙ sym (unanswered-new h lawful r.moment (begun_request r client p.scope) number);
-        confirmed_is = confirmed-ranked r.moment (unseen_operation begun) ∙ sym (unasked_unconfirmed h lawful begun (omega (arith, number)));
+        operation = subst (λ m. IsOperation m (acts r.req.0 h) (fresh_operation begun) begun)
+            (sym (moment-ranked r.moment (unseen_operation begun)))
+            (subst (λ (xs : List Act). IsOperation r.moment xs (fresh_operation begun) begun) (sym acts_none)
+            (operation-fresh r p h bounded bare apart few));
+        waiting_are = ap numbers (members-ranked r.moment (unseen_operation begun))
+            ∙ sym (unanswered-new h lawful r.moment (begun_request r client p.scope) number);
+        confirmed_is = confirmed-ranked r.moment (unseen_operation begun)
+            ∙ sym (unasked_unconfirmed h lawful begun (omega (arith, number)));
         untried_is = untried_now ∙ sym (ap (untried begun) acts_none);
         enough = omega (arith, untried_now, left);
+        few_runs = subst AreFewRuns (sym acts_none) (λ s. omega arith);
       }
 
   -- the others stand as before
   other-stands : (k : KeptOperation) (o : Operation) → o.req < asks h → Stands h k o → Stands after k o
   other-stands k o less s =
       let other : (o.req == r.req.0) ≡ false = ne_eqb o.req r.req.0 (λ e. omega (arith, less, number, e)) in
-      subst (λ ws. IsKept (acts o.req h) ws (is_confirmed o h) k o) (sym (unanswered-other h r.moment (begun_request r client p.scope) o.req other)) s
+      subst (λ ws. IsKept (acts o.req h) ws (is_confirmed o h) k o)
+      (sym (unanswered-other h r.moment (begun_request r client p.scope) o.req other)) s
 
-  others-stand : (ks : List KeptOperation) (os : List Operation) → AllByRecursion (λ (o : Operation). o.req < asks h) os → AllZip (Stands h) ks os → AllZip (Stands after) ks os
+  others-stand : (ks : List KeptOperation) (os : List Operation) → AllByRecursion (λ (o : Operation). o.req < asks h)
+      os → AllZip (Stands h) ks os → AllZip (Stands after) ks os
   others-stand [] [] less z = tt
   others-stand [] (o ∷ os) less z = absurd z
   others-stand (k ∷ ks) [] less z = absurd z
@@ -86,11 +141,14 @@ module _ (r : Begun) (p : Plan) (h : History) (client : List ℕ) (lawful : Lawf
       open-asked h lawful r.moment (begun_request r client p.scope) number
       ∙ ap (λ (q : Plan). open_operations h ++ operation_by r.req.0 (asked_of r p.scope h) q ∷ []) (sym planned)
 
-  pub stands-begun : (v : Kept) → StandsFor v h → length p.candidates ≤ 128 → length p.levels ≤ 9 → AreFewDevices p.levels →
+  pub stands-begun : (v : Kept) → StandsFor v h → length p.candidates ≤ MOST_DEVICES →
+      length p.levels ≤ MOST_LEVELS_OF_TARGET → AreFewDevices p.levels →
       StandsFor (record v { operations = v.operations ++ fresh_operation begun ∷ [] }) after
   stands-begun v s few few_levels few_devices = record {
-    each = subst (λ (os : List Operation). AllZip (Stands after) (v.operations ++ fresh_operation begun ∷ []) os) (sym opened)
-        (zip_append (Stands after) v.operations (fresh_operation begun ∷ []) (open_operations h) (begun ∷ []) (others-stand v.operations (open_operations h) (open-small h lawful) s.each)
+    each = subst (λ (os : List Operation). AllZip (Stands after) (v.operations ++ fresh_operation begun ∷ []) os)
+        (sym opened)
+        (zip_append (Stands after) v.operations (fresh_operation begun ∷ []) (open_operations h) (begun ∷ [])
+        (others-stand v.operations (open_operations h) (open-small h lawful) s.each)
         (fresh-stands few few_levels few_devices, tt));
     alive = s.alive;
   }
@@ -100,14 +158,19 @@ find-other t [] x e = rw e refl
 find-other t (y ∷ ys) x e = ap (cond (t y) (Some y)) (find-other t ys x e)
 
 -- the other operations wait for what they waited for
-pub others-wait : (r : Begun) (p : Plan) (h : History) (v : Kept) → OthersWait r.req.0 v (record v { operations = v.operations ++ fresh_operation (begun_by r p h) ∷ [] })
-others-wait r p h v n e = ap (option_and_then OperationRecords.waiting) (find-other (is_of n) v.operations (fresh_operation (begun_by r p h)) (ap (λ k. k == n) (req-ranked r.moment (unseen_operation (begun_by r p h))) ∙ other))
+pub others-wait : (r : Begun) (p : Plan) (h : History) (v : Kept) →
+    OthersWait r.req.0 v (record v { operations = v.operations ++ fresh_operation (begun_by r p h) ∷ [] })
+others-wait r p h v n e = ap (option_and_then OperationRecords.waiting) (find-other (is_of n) v.operations
+    (fresh_operation (begun_by r p h)) (ap (λ k. k == n) (req-ranked r.moment (unseen_operation (begun_by r p h)))
+    ∙ other))
   where
     other : (r.req.0 == n) ≡ false
-    other = ne_eqb r.req.0 n (λ g. let same : (n == r.req.0) ≡ true = eq-eqb n r.req.0 (sym g) in let wrong : true ≡ false = sym same ∙ e in cc)
+    other = ne_eqb r.req.0 n (λ g. let same : (n == r.req.0) ≡ true = eq-eqb n r.req.0 (sym g) in
+        let wrong : true ≡ false = sym same ∙ e in cc)
 
 -- the same whether there was memory or not
 pub others-wait-ever : (r : Begun) (p : Plan) (h : History) (v w : Kept) (x : Result (Unit {0}) NoMemory) →
-    OnOk x (w ≡ record v { operations = v.operations ++ fresh_operation (begun_by r p h) ∷ [] }) → OnErr x (w ≡ v) → OthersWait r.req.0 v w
+    OnOk x (w ≡ record v { operations = v.operations ++ fresh_operation (begun_by r p h) ∷ [] }) → OnErr x (w ≡ v) →
+    OthersWait r.req.0 v w
 others-wait-ever r p h v w (Ok u) e f = subst (OthersWait r.req.0 v) (sym e) (others-wait r p h v)
 others-wait-ever r p h v w (Err u) e f = subst (OthersWait r.req.0 v) (sym f) (λ n k. refl)

@@ -17,7 +17,8 @@ is_untold _ = true
 abbrev after : ℕ → Event → History → History
 after m event h = record { moment = m; event = event } ∷ h
 
-pub stands-quiet : (v : Kept) (m : ℕ) (event : Event) (h : History) → is_untold event ≡ true → StandsFor v h → StandsFor v (after m event h)
+pub stands-quiet : (v : Kept) (m : ℕ) (event : Event) (h : History) → is_untold event ≡ true → StandsFor v h →
+    StandsFor v (after m event h)
 stands-quiet v m (Event.Ask ask) h q s = cc
 stands-quiet v m (Event.Exit ended) h q s = cc
 stands-quiet v m (Event.Confirm confirmation) h q s = cc

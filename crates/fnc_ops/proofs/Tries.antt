@@ -1,10 +1,39 @@
--- The slot at which an operation stands was started no more often than is allowed, while no answer is due; where no run of it is alive it has a try left.
-use Rattle.std.proofs.Common.{ℕ, List, [], ◌∷◌, Bool, true, false, ◌≡◌, ◌≤◌, ◌<◌, ◌+◌, ◌==◌, ◌&&◌, refl, ap, sym, subst, Option, Some, None, cond, not, is_some, nat_le, arith, false-eqb}
+-- The slot at which an operation stands was started no more often than is allowed, while no answer is due; where no run
+-- of it is alive it has a try left.
+use Rattle.std.proofs.Common.{
+  ℕ,
+  List,
+  [],
+  ◌∷◌,
+  Bool,
+  true,
+  false,
+  ◌≡◌,
+  ◌≤◌,
+  ◌<◌,
+  ◌+◌,
+  ◌==◌,
+  ◌&&◌,
+  refl,
+  ap,
+  sym,
+  subst,
+  Option,
+  Some,
+  None,
+  cond,
+  not,
+  is_some,
+  nat_le,
+  arith,
+  false-eqb,
+}
 use Rattle.std.proofs.lemmas.Bool.{or_parts}
 use Rattle.std.proofs.lemmas.Bool.Decides.{nat_tests}
 use Rattle.std.specs.Prelude.{option_map}
 use Rattle.std.specs.List.{list_all}
 use Rattle.std.specs.Option.{option_or}
+use Rattle.fnc_journal.specs.declared.limits.TheConstants.{MOST_TRIES}
 use Rattle.fnc_journal.specs.declared.entry.Answer.{Answer}
 use Rattle.fnc_journal.specs.History.{History}
 use Rattle.fnc_journal.specs.Missing.{has_come}
@@ -33,15 +62,18 @@ time-left : (over m : ℕ) (b : Bool) → nat_le over m ≡ b → is_some (cond 
 time-left over m true k e = cc
 time-left over m false k e = later-than over m k
 
-failure-left : (o : Operation) (m : ℕ) (xs : List Act) (ls : List Rank) → is_some (failure_due o m xs ls) ≡ false → m < o.over
+failure-left : (o : Operation) (m : ℕ) (xs : List Act) (ls : List Rank) → is_some (failure_due o m xs ls) ≡ false →
+    m < o.over
 failure-left o m xs [] e = go (queries_concluded o m xs) e
   where
-    go : (b : Bool) → is_some (cond b (Some Answer.NoDevice) (cond (nat_le o.over m) (Some Answer.Time) None)) ≡ false → m < o.over
+    go : (b : Bool) → is_some (cond b (Some Answer.NoDevice) (cond (nat_le o.over m) (Some Answer.Time) None)) ≡
+        false → m < o.over
     go true f = cc
     go false f = time-left o.over m (nat_le o.over m) refl f
 failure-left o m xs (l ∷ ls) e = go (queries_concluded o m xs && list_all (lost o m xs) (l ∷ ls)) e
   where
-    go : (b : Bool) → is_some (cond b (Some Answer.Levels) (cond (nat_le o.over m) (Some Answer.Time) None)) ≡ false → m < o.over
+    go : (b : Bool) → is_some (cond b (Some Answer.Levels) (cond (nat_le o.over m) (Some Answer.Time) None)) ≡ false →
+        m < o.over
     go true f = cc
     go false f = time-left o.over m (nat_le o.over m) refl f
 
@@ -56,24 +88,27 @@ not-over h m o e = go (is_confirmed o h && cuts_power o.kind) e
     go true f = cc
     go false f =
         failure-left o m (acts o.req h) (ranks o m (acts o.req h))
-        (none-other (option_map answer_passed (passed_among o m (acts o.req h) (ranks o m (acts o.req h)))) (failure_due o m (acts o.req h) (ranks o m (acts o.req h))) f)
+        (none-other (option_map answer_passed (passed_among o m (acts o.req h) (ranks o m (acts o.req h))))
+        (failure_due o m (acts o.req h) (ranks o m (acts o.req h))) f)
 
 -- the runs that a slot has had, and the tries that it is allowed
 pub record HasTries (xs : List Act) (t : Task) : Type 0 where
   pub few : runs t.slot xs ≤ tries t
   pub left : is_idle (last_of t.slot xs) ≡ true → runs t.slot xs < tries t
-  pub most : tries t ≤ 16
+  pub most : tries t ≤ MOST_TRIES
 
 -- of the slot at which the operation stands
 module _ (o : Operation) (m : ℕ) (xs : List Act) (early : m < o.over) where
-  by-record : (r : KeptOperation) → IsOperation m xs r o → (t : Task) → Standing.standing o m xs ≡ Some t → (s : SlotRecord) → IsShortSlot o xs s t → HasTries xs t
+  by-record : (r : KeptOperation) → IsOperation m xs r o → (t : Task) → Standing.standing o m xs ≡ Some t →
+      (s : SlotRecord) → IsShortSlot o xs s t → HasTries xs t
   by-record r h t e s k = record { few = few (is_idle (last_of t.slot xs)) refl; left = left; most = k.short.few }
     where
       succeeded : has_succeeded t o.over xs ≡ false
       succeeded = (or_parts (has_succeeded t o.over xs) (spent t o.over m xs) (standing-open o m xs r h t e)).0
 
       unspent : ((failed t o.over xs == tries t) ≡ false) × (has_come (end t xs) m ≡ false)
-      unspent = or_parts (failed t o.over xs == tries t) (has_come (end t xs) m) (or_parts (has_succeeded t o.over xs) (spent t o.over m xs) (standing-open o m xs r h t e)).1
+      unspent = or_parts (failed t o.over xs == tries t) (has_come (end t xs) m) (or_parts (has_succeeded t o.over xs)
+          (spent t o.over m xs) (standing-open o m xs r h t e)).1
 
       has_run : runs t.slot xs ≡ failed t o.over xs + one_if (not (is_idle (last_of t.slot xs)))
       has_run = counted t o.over m early xs h.past h.turns unspent.1 succeeded
@@ -101,8 +136,10 @@ module _ (o : Operation) (m : ℕ) (xs : List Act) (early : m < o.over) where
           let fewer : failed t o.over xs < tries t = less in
           omega (arith, one, all, fewer)
 
-  pub standing-tries : (r : KeptOperation) → IsOperation m xs r o → (t : Task) → Standing.standing o m xs ≡ Some t → HasTries xs t
-  standing-tries r h t e = go (standing_slot m r) (subst (BothOr (IsShortSlot o xs) (standing_slot m r)) e (standing_slot_is o m xs r h))
+  pub standing-tries : (r : KeptOperation) → IsOperation m xs r o → (t : Task) → Standing.standing o m xs ≡ Some t →
+      HasTries xs t
+  standing-tries r h t e = go (standing_slot m r) (subst (BothOr (IsShortSlot o xs) (standing_slot m r)) e
+      (standing_slot_is o m xs r h))
     where
       go : (x : Option SlotRecord) → BothOr (IsShortSlot o xs) x (Some t) → HasTries xs t
       go None b = absurd b

@@ -1,6 +1,29 @@
 -- What an operation waits for, at which moments the records speak and which numbers they have,
 -- after a change of one record or of all.
-use Rattle.std.proofs.Common.{ℕ, List, [], ◌∷◌, Bool, true, false, ◌≡◌, ◌==◌, refl, ap, ap₂, sym, ◌∙◌, Option, Some, None, cond, map, eqb-true, eq-eqb, ne_eqb}
+use Rattle.std.proofs.Common.{
+  ℕ,
+  List,
+  [],
+  ◌∷◌,
+  Bool,
+  true,
+  false,
+  ◌≡◌,
+  ◌==◌,
+  refl,
+  ap,
+  ap₂,
+  sym,
+  ◌∙◌,
+  Option,
+  Some,
+  None,
+  cond,
+  map,
+  eqb-true,
+  eq-eqb,
+  ne_eqb,
+}
 use Rattle.std.specs.Prelude.{filter, find, option_and_then, bytes_eq}
 use Rattle.std.specs.List.{AllZip, AllByRecursion}
 use Rattle.fnc_journal.specs.declared.entry.Exit.{Exit}
@@ -30,14 +53,17 @@ waiting-alike n [] [] z = refl
 waiting-alike n [] (s ∷ ss) z = absurd z
 waiting-alike n (r ∷ rs) [] z = absurd z
 waiting-alike n (r ∷ rs) (s ∷ ss) z =
-    ap (λ k. option_and_then OperationRecords.waiting (cond (k == n) (Some r) (find (is_of n) rs))) z.0.req ∙ go (s.req == n) (waiting-alike n rs ss z.1)
+    ap (λ k. option_and_then OperationRecords.waiting (cond (k == n) (Some r) (find (is_of n) rs))) z.0.req
+    ∙ go (s.req == n) (waiting-alike n rs ss z.1)
   where
     go : (b : Bool) → waiting n rs ≡ waiting n ss →
-        option_and_then OperationRecords.waiting (cond b (Some r) (find (is_of n) rs)) ≡ option_and_then OperationRecords.waiting (cond b (Some s) (find (is_of n) ss))
+        option_and_then OperationRecords.waiting (cond b (Some r) (find (is_of n) rs)) ≡ option_and_then
+        OperationRecords.waiting (cond b (Some s) (find (is_of n) ss))
     go true e = z.0.waits
     go false e = e
 
-pub waiting-map : (f : KeptOperation → KeptOperation) → ((r : KeptOperation) → WaitAlike (f r) r) → (n : ℕ) (rs : List KeptOperation) → waiting n (map f rs) ≡ waiting n rs
+pub waiting-map : (f : KeptOperation → KeptOperation) → ((r : KeptOperation) → WaitAlike (f r) r) →
+    (n : ℕ) (rs : List KeptOperation) → waiting n (map f rs) ≡ waiting n rs
 waiting-map f k n rs = waiting-alike n (map f rs) rs (each rs)
   where
     each : (rs : List KeptOperation) → AllZip WaitAlike (map f rs) rs
@@ -46,7 +72,8 @@ waiting-map f k n rs = waiting-alike n (map f rs) rs (each rs)
 
 -- a change of one operation's record leaves what the others wait for
 module _ (req : ℕ) (f : KeptOperation → KeptOperation) (k : (r : KeptOperation) → (f r).req ≡ r.req) where
-  pub waiting-only : (n : ℕ) → (n == req) ≡ false → (rs : List KeptOperation) → waiting n (map (only req f) rs) ≡ waiting n rs
+  pub waiting-only : (n : ℕ) → (n == req) ≡ false → (rs : List KeptOperation) →
+      waiting n (map (only req f) rs) ≡ waiting n rs
   waiting-only n other [] = refl
   waiting-only n other (r ∷ rs) = go (r.req == req) refl (waiting-only n other rs)
     where
@@ -54,12 +81,14 @@ module _ (req : ℕ) (f : KeptOperation → KeptOperation) (k : (r : KeptOperati
       apart e = ne_eqb r.req n (λ g. false-true (n == req) other (eq-eqb n req (sym g ∙ eqb-true r.req req e)))
 
       both : (c : Bool) → waiting n (map (only req f) rs) ≡ waiting n rs →
-          option_and_then OperationRecords.waiting (cond c (Some r) (find (is_of n) (map (only req f) rs))) ≡ option_and_then OperationRecords.waiting (cond c (Some r) (find (is_of n) rs))
+          option_and_then OperationRecords.waiting (cond c (Some r) (find (is_of n) (map (only req f) rs))) ≡
+          option_and_then OperationRecords.waiting (cond c (Some r) (find (is_of n) rs))
       both true ih = refl
       both false ih = ih
 
       go : (b : Bool) → (r.req == req) ≡ b → waiting n (map (only req f) rs) ≡ waiting n rs →
-          option_and_then OperationRecords.waiting (cond ((cond b (f r) r).req == n) (Some (cond b (f r) r)) (find (is_of n) (map (only req f) rs)))
+          option_and_then OperationRecords.waiting (cond ((cond b (f r) r).req == n) (Some (cond b (f r) r))
+          (find (is_of n) (map (only req f) rs)))
           ≡ option_and_then OperationRecords.waiting (cond (r.req == n) (Some r) (find (is_of n) rs))
       go true e ih =
           let changed : ((f r).req == n) ≡ false = ap (λ q. q == n) (k r) ∙ apart e in
@@ -74,18 +103,21 @@ module _ (req : ℕ) (f : KeptOperation → KeptOperation) (k : (r : KeptOperati
       go true = k r
       go false = refl
 
-pub moment-only : (req : ℕ) (f : KeptOperation → KeptOperation) → ((r : KeptOperation) → (f r).moment ≡ r.moment) → (r : KeptOperation) → (only req f r).moment ≡ r.moment
+pub moment-only : (req : ℕ) (f : KeptOperation → KeptOperation) → ((r : KeptOperation) → (f r).moment ≡ r.moment) →
+    (r : KeptOperation) → (only req f r).moment ≡ r.moment
 moment-only req f k r = go (r.req == req)
   where
     go : (b : Bool) → (cond b (f r) r).moment ≡ r.moment
     go true = k r
     go false = refl
 
-pub numbers-map : (f : KeptOperation → KeptOperation) → ((r : KeptOperation) → (f r).req ≡ r.req) → (rs : List KeptOperation) → map (λ r. r.req) (map f rs) ≡ map (λ r. r.req) rs
+pub numbers-map : (f : KeptOperation → KeptOperation) → ((r : KeptOperation) → (f r).req ≡ r.req) →
+    (rs : List KeptOperation) → map (λ r. r.req) (map f rs) ≡ map (λ r. r.req) rs
 numbers-map f k [] = refl
 numbers-map f k (r ∷ rs) = ap₂ ◌∷◌ (k r) (numbers-map f k rs)
 
-pub at-map : (m : ℕ) (f : KeptOperation → KeptOperation) → ((r : KeptOperation) → (f r).moment ≡ r.moment) → (rs : List KeptOperation) → AreAt m rs → AreAt m (map f rs)
+pub at-map : (m : ℕ) (f : KeptOperation → KeptOperation) → ((r : KeptOperation) → (f r).moment ≡ r.moment) →
+    (rs : List KeptOperation) → AreAt m rs → AreAt m (map f rs)
 at-map m f k [] a = tt
 at-map m f k (r ∷ rs) a = (k r ∙ a.0, at-map m f k rs a.1)
 
@@ -105,7 +137,8 @@ confirmed-alike target r = go (bytes_eq target r.target)
     go true = record { req = refl; waits = refl }
     go false = record { req = refl; waits = refl }
 
-pub waiting-confirmed : (target : List ℕ) (n : ℕ) (rs : List KeptOperation) → waiting n (map (operation_confirmed target) rs) ≡ waiting n rs
+pub waiting-confirmed : (target : List ℕ) (n : ℕ) (rs : List KeptOperation) →
+    waiting n (map (operation_confirmed target) rs) ≡ waiting n rs
 waiting-confirmed target = waiting-map (operation_confirmed target) (confirmed-alike target)
 
 pub moment-confirmed : (target : List ℕ) (r : KeptOperation) → (operation_confirmed target r).moment ≡ r.moment
@@ -116,7 +149,8 @@ moment-confirmed target r = go (bytes_eq target r.target)
     go false = refl
 
 -- where each record waits, none goes
-pub waiting-kept : (rs : List KeptOperation) → (n req : ℕ) → (n == req) ≡ false → AllByRecursion (λ r. (r.req == req) ≡ false → is_waiting r ≡ true) rs →
+pub waiting-kept : (rs : List KeptOperation) → (n req : ℕ) → (n == req) ≡ false →
+    AllByRecursion (λ r. (r.req == req) ≡ false → is_waiting r ≡ true) rs →
     waiting n (filter is_waiting rs) ≡ waiting n rs
 waiting-kept [] n req other a = refl
 waiting-kept (r ∷ rs) n req other a = go (is_waiting r) (r.req == req) refl refl (waiting-kept rs n req other a.1)
@@ -125,28 +159,37 @@ waiting-kept (r ∷ rs) n req other a = go (is_waiting r) (r.req == req) refl re
     gone e = ne_eqb r.req n (λ g. false-true (n == req) other (eq-eqb n req (sym g ∙ eqb-true r.req req e)))
 
     stays : (c : Bool) → waiting n (filter is_waiting rs) ≡ waiting n rs →
-        option_and_then OperationRecords.waiting (cond c (Some r) (find (is_of n) (filter is_waiting rs))) ≡ option_and_then OperationRecords.waiting (cond c (Some r) (find (is_of n) rs))
+        option_and_then OperationRecords.waiting (cond c (Some r) (find (is_of n) (filter is_waiting rs))) ≡
+        option_and_then OperationRecords.waiting (cond c (Some r) (find (is_of n) rs))
     stays true ih = refl
     stays false ih = ih
 
-    go : (b c : Bool) → is_waiting r ≡ b → (r.req == req) ≡ c → waiting n (filter is_waiting rs) ≡ waiting n rs → waiting n (cond b (r ∷ filter is_waiting rs) (filter is_waiting rs)) ≡ waiting n (r ∷ rs)
+    go : (b c : Bool) → is_waiting r ≡ b → (r.req == req) ≡ c → waiting n (filter is_waiting rs) ≡ waiting n rs →
+        waiting n (cond b (r ∷ filter is_waiting rs) (filter is_waiting rs)) ≡ waiting n (r ∷ rs)
     go true c w e ih = stays (r.req == n) ih
     go false true w e ih = let other : (r.req == n) ≡ false = gone e in rw other ih
     go false false w e ih = absurd (false-true (is_waiting r) w (a.0 e))
 
 -- after an exit, of a run that was started so
-ended-req : (slot : Slot) (exit : Exit) (listed : Bool) (m : ℕ) (r : KeptOperation) → (operation_ended slot exit listed m r).req ≡ r.req
-ended-req slot exit listed m r = req-ranked m (record r { levels = map (level_ended slot exit listed r.over m) r.levels })
+ended-req : (slot : Slot) (exit : Exit) (listed : Bool) (m : ℕ) (r : KeptOperation) →
+    (operation_ended slot exit listed m r).req ≡ r.req
+ended-req slot exit listed m r =
+    req-ranked m (record r { levels = map (level_ended slot exit listed r.over m) r.levels })
 
-ended-moment : (slot : Slot) (exit : Exit) (listed : Bool) (m : ℕ) (r : KeptOperation) → (operation_ended slot exit listed m r).moment ≡ r.moment
-ended-moment slot exit listed m r = moment-ranked m (record r { levels = map (level_ended slot exit listed r.over m) r.levels })
+ended-moment : (slot : Slot) (exit : Exit) (listed : Bool) (m : ℕ) (r : KeptOperation) →
+    (operation_ended slot exit listed m r).moment ≡ r.moment
+ended-moment slot exit listed m r =
+    moment-ranked m (record r { levels = map (level_ended slot exit listed r.over m) r.levels })
 
-pub at-ended : (x : Option Start) (over : Ended) (m at : ℕ) (rs : List KeptOperation) → AreAt at rs → AreAt at (ended x over m rs)
+pub at-ended : (x : Option Start) (over : Ended) (m at : ℕ) (rs : List KeptOperation) → AreAt at rs →
+    AreAt at (ended x over m rs)
 at-ended None over m at rs a = a
 at-ended (Some s) over m at rs a =
     let seen = operation_ended s.slot over.exit over.listed m in
     at-map at (only s.req.0 seen) (moment-only s.req.0 seen (ended-moment s.slot over.exit over.listed m)) rs a
 
-pub waiting-ended : (s : Start) (over : Ended) (m n : ℕ) → (n == s.req.0) ≡ false → (rs : List KeptOperation) → waiting n (ended (Some s) over m rs) ≡ waiting n rs
+pub waiting-ended : (s : Start) (over : Ended) (m n : ℕ) → (n == s.req.0) ≡ false → (rs : List KeptOperation) →
+    waiting n (ended (Some s) over m rs) ≡ waiting n rs
 waiting-ended s over m n other rs =
-    waiting-only s.req.0 (operation_ended s.slot over.exit over.listed m) (ended-req s.slot over.exit over.listed m) n other rs
+    waiting-only s.req.0 (operation_ended s.slot over.exit over.listed m) (ended-req s.slot over.exit over.listed m) n
+    other rs

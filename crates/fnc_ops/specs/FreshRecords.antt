@@ -1,5 +1,23 @@
 -- What the record of an operation says when that begins: nothing was started yet.
-use Rattle.std.specs.Prelude.{ℕ, List, [], ◌∷◌, Bool, true, false, ◌+◌, nat_le, if◌then◌else◌, map, length, Some, None, Option, option_map, option_and_then}
+use Rattle.std.specs.Prelude.{
+  ℕ,
+  List,
+  [],
+  ◌∷◌,
+  Bool,
+  true,
+  false,
+  ◌+◌,
+  nat_le,
+  if◌then◌else◌,
+  map,
+  length,
+  Some,
+  None,
+  Option,
+  option_map,
+  option_and_then,
+}
 use Rattle.std.specs.List.{cons_option}
 use Rattle.fnc_journal.specs.declared.entry.Kind.{Kind}
 use Rattle.fnc_journal.specs.declared.entry.Scope.{Scope}
@@ -39,7 +57,8 @@ fresh_slot target coin t = record {
 -- the Act or Off slots of the devices that are there, each at its place
 abbrev pub firsts_at : Bool → Kind → ℕ → ℕ → List (Option Device) → List Task
 firsts_at split kind level place [] = []
-firsts_at split kind level place (d ∷ ds) = cons_option (option_map (act_task split kind level place) d) (firsts_at split kind level (place + 1) ds)
+firsts_at split kind level place (d ∷ ds) =
+    cons_option (option_map (act_task split kind level place) d) (firsts_at split kind level (place + 1) ds)
 
 -- the On slots of those that have on
 abbrev pub ons_at : ℕ → ℕ → List (Option Device) → List Task
@@ -136,7 +155,16 @@ fresh_operation o = ranked_if_queried o.begin (unseen_operation o)
 -- what is asked by the request that begins it, after the entries before
 abbrev pub asked_of : Request → Scope → History → Asked
 asked_of r scope before =
-    record { moment = r.moment; lead = r.req.0; kind = r.kind; target = r.target; total = r.total; coin = r.coin; scope = scope; before = before }
+    record {
+      moment = r.moment;
+      lead = r.req.0;
+      kind = r.kind;
+      target = r.target;
+      total = r.total;
+      coin = r.coin;
+      scope = scope;
+      before = before;
+    }
 
 -- what is wanted by it, with the levels of a scope
 abbrev pub wanted_by : Request → Scope → Wanted

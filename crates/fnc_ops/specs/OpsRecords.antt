@@ -1,5 +1,25 @@
 -- What the records of all operations say.
-use Rattle.std.specs.Prelude.{ℕ, List, [], ◌∷◌, Bool, ◌==◌, find, Option, Some, None, option_and_then, map, filter, if◌then◌else◌, nat_lt, option_map, ◌+◌, ◌≡◌, false}
+use Rattle.std.specs.Prelude.{
+  ℕ,
+  List,
+  [],
+  ◌∷◌,
+  Bool,
+  ◌==◌,
+  find,
+  Option,
+  Some,
+  None,
+  option_and_then,
+  map,
+  filter,
+  if◌then◌else◌,
+  nat_lt,
+  option_map,
+  ◌+◌,
+  ◌≡◌,
+  false,
+}
 use Rattle.std.specs.Option.{option_or}
 use Rattle.fnc_journal.specs.declared.entry.Answer.{Answer}
 use Rattle.fnc_records.specs.declared.operation.Standing.{Standing}
@@ -64,7 +84,10 @@ replied req os = filter OperationRecords.is_waiting (map (OperationRecords.only 
 
 -- after a start of the slot at which the operation of a number stands
 abbrev pub started : ℕ → ℕ → Kept → Kept
-started req m v = record { operations = map (OperationRecords.only req (OperationRecords.start_standing m)) v.operations; alive = capped 32 (v.alive + 1) }
+started req m v = record {
+  operations = map (OperationRecords.only req (OperationRecords.start_standing m)) v.operations;
+  alive = capped 32 (v.alive + 1);
+}
 
 -- after the exit of a run that was started so
 abbrev pub ended : Option Start → Ended → ℕ → List KeptOperation → List KeptOperation
@@ -95,14 +118,16 @@ first_expiry m (o ∷ os) = sooner (expiry_of m o) (first_expiry m os)
 abbrev pub first_expired : ℕ → List KeptOperation → Option Req
 first_expired m os = option_map (λ (e : Expiry). e.req) (first_expiry m os)
 
--- a later moment, for one operation or for all
+-- a later moment, where an operation comes to it: for that one and for those whose standing slot does not come to its
+-- action's end by then; else for all
 abbrev pub moved : Option Req → ℕ → List KeptOperation → List KeptOperation
 moved None m os = map (OperationRecords.at_moment m) os
-moved (Some req) m os = map (OperationRecords.only req.0 (OperationRecords.at_moment m)) os
+moved (Some req) m os = map (OperationRecords.at_moment_unless_ending req.0 m) os
 
 -- the first that a request for a target and an action joins
 abbrev pub joinable : Kind → List ℕ → List KeptOperation → Option Req
-joinable kind target os = option_map (λ (o : KeptOperation). record { 0 = o.req }) (find (OperationRecords.is_joinable kind target) os)
+joinable kind target os =
+    option_map (λ (o : KeptOperation). record { 0 = o.req }) (find (OperationRecords.is_joinable kind target) os)
 
 -- what all of them owe
 abbrev pub owed_by_all : List KeptOperation → ℕ
@@ -121,4 +146,5 @@ owed v = v.alive + owed_by_all v.operations
 -- after a request has joined the operation of a number
 abbrev pub joined : ℕ → Req → List KeptOperation → List KeptOperation
 joined operation req [] = []
-joined operation req (o ∷ os) = if o.req == operation then OperationRecords.with_member req o ∷ os else o ∷ joined operation req os
+joined operation req (o ∷ os) =
+    if o.req == operation then OperationRecords.with_member req o ∷ os else o ∷ joined operation req os

@@ -1,6 +1,22 @@
 -- The allowed tries of the slots that a plan gives an operation, by the devices of its levels or candidates.
 -- Sums are cut where they would not fit; of a plan within its bounds none is.
-use Rattle.std.specs.Prelude.{ℕ, List, [], ◌∷◌, Bool, false, ◌+◌, ◌&&◌, if◌then◌else◌, map, length, is_none, Option, Some, None}
+use Rattle.std.specs.Prelude.{
+  ℕ,
+  List,
+  [],
+  ◌∷◌,
+  Bool,
+  false,
+  ◌+◌,
+  ◌&&◌,
+  if◌then◌else◌,
+  map,
+  length,
+  is_none,
+  Option,
+  Some,
+  None,
+}
 use Rattle.std.specs.List.{list_any}
 use Rattle.fnc_journal.specs.declared.definition.Definition.{Definition}
 use Rattle.fnc_journal.specs.declared.entry.Kind.{Kind}
@@ -53,7 +69,8 @@ act_tries levelled kind d = if levelled then 0 else first_tries false kind d
 -- of both, where the device is there
 abbrev pub device_tries : Bool → Kind → Option Kind → Option Device → ℕ
 device_tries levelled kind query None = 0
-device_tries levelled kind query (Some d) = capped 32 (query_tries d.definition query + act_tries levelled kind d.definition)
+device_tries levelled kind query (Some d) =
+    capped 32 (query_tries d.definition query + act_tries levelled kind d.definition)
 
 -- of a candidate
 abbrev pub candidate_tries : Bool → Kind → History → Candidate → ℕ
@@ -66,4 +83,6 @@ ranked_tries levelled kind h ls = if levelled then sum_from 0 (map (level_tries 
 -- of all slots
 abbrev pub plan_tries : Kind → History → Plan → ℕ
 plan_tries kind h p =
-    capped 32 (sum_from 0 (map (candidate_tries (is_levelled p.scope) kind h) p.candidates) + ranked_tries (is_levelled p.scope) kind h p.levels)
+    capped 32
+    (sum_from 0 (map (candidate_tries (is_levelled p.scope) kind h) p.candidates)
+    + ranked_tries (is_levelled p.scope) kind h p.levels)

@@ -1,6 +1,29 @@
 -- When the records of the open operations stand for a journal, and what they are then asked for.
-use Rattle.std.specs.Prelude.{ℕ, List, ◌≡◌, ◌==◌, Bool, true, map, find, Option, Some, None, option_map, option_and_then, [], ◌∷◌, ◌≤◌, nat_lt, if◌then◌else◌, length, ◌+◌}
+use Rattle.std.specs.Prelude.{
+  ℕ,
+  List,
+  ◌≡◌,
+  ◌==◌,
+  Bool,
+  true,
+  map,
+  find,
+  Option,
+  Some,
+  None,
+  option_map,
+  option_and_then,
+  [],
+  ◌∷◌,
+  ◌≤◌,
+  nat_lt,
+  if◌then◌else◌,
+  length,
+  ◌+◌,
+}
 use Rattle.std.specs.List.{AllZip, AllByRecursion}
+use Rattle.fnc_journal.specs.declared.entry.Slot.{Slot}
+use Rattle.fnc_journal.specs.declared.limits.TheConstants.{MOST_DEVICES_OF_LEVEL, MOST_TRIES}
 use Rattle.fnc_journal.specs.declared.entry.Entry.{Entry}
 use Rattle.fnc_journal.specs.declared.event.Confirmation.{Confirmation}
 use Rattle.fnc_journal.specs.declared.event.Ended.{Ended}
@@ -28,7 +51,6 @@ use Rattle.fnc_records.specs.KeptOperation.{KeptOperation}
 use Rattle.fnc_ops.specs.Kept.{Kept}
 use Rattle.fnc_records.specs.OperationFacts.{IsOperation, IsStanding, left_levels}
 use Rattle.fnc_records.specs.SlotFacts.{BothOr}
-use Rattle.fnc_journal.specs.declared.entry.Exit.{Exit}
 use Rattle.fnc_journal.specs.declared.entry.Answer.{Answer}
 use Rattle.fnc_journal.specs.Missing.{first_of}
 use Rattle.fnc_records.specs.SlotRecords.{come_by}
@@ -37,13 +59,19 @@ use Rattle.fnc_records.specs.SlotRecords.{come_by}
 abbrev pub numbers : List Req → List ℕ
 numbers rs = map (λ r. r.0) rs
 
+-- no slot has had more runs than a device may allow tries
+abbrev pub AreFewRuns : List Act → Type 0
+AreFewRuns xs = (s : Slot) → runs s xs ≤ MOST_TRIES
+
 -- the record of an operation with these acts and these waiting requests, which an operator confirmed or not
-pub record IsKept (xs : List Act) (waiting : List ℕ) (confirmed : Bool) (r : KeptOperation) (o : Operation) : Type 0 where
+pub record IsKept (xs : List Act) (waiting : List ℕ) (confirmed : Bool) (r : KeptOperation) (o : Operation) :
+    Type 0 where
   pub operation : IsOperation r.moment xs r o
   pub waiting_are : numbers r.members ≡ waiting
   pub confirmed_is : r.confirmed ≡ confirmed
   pub untried_is : r.untried ≡ untried o xs
   pub enough : left_levels r.levels ≤ r.untried
+  pub few_runs : AreFewRuns xs
 
 -- the record of an operation in a journal
 abbrev pub Stands : History → KeptOperation → Operation → Type 0
@@ -62,6 +90,10 @@ pub record StandsFor (v : Kept) (h : History) : Type 0 where
 abbrev pub AreAt : ℕ → List KeptOperation → Type 0
 AreAt m rs = AllByRecursion (λ r. r.moment ≡ m) rs
 
+-- the record of the operation of a number speaks at this moment
+abbrev pub SpeaksAt : ℕ → ℕ → List KeptOperation → Type 0
+SpeaksAt m req rs = AllByRecursion (λ r. (r.req == req) ≡ true → r.moment ≡ m) rs
+
 -- where an operation stands at a moment, if it is open
 abbrev pub IsStandingAtMoment : History → ℕ → Option Standing → Option Operation → Type 0
 IsStandingAtMoment h m s None = s ≡ None
@@ -78,9 +110,9 @@ IsFirstDue h m None (Some o) = ⊥
 IsFirstDue h m (Some d) None = ⊥
 IsFirstDue h m (Some d) (Some o) = (o.req ≡ d.req.0) × (due_to h m o ≡ Some d.answer)
 
--- each level of a plan has at most 8 devices
+-- each level of a plan has no more devices than a level may
 abbrev pub AreFewDevices : List PlanLevel → Type 0
-AreFewDevices ls = AllByRecursion (λ l. length l.devices ≤ 8) ls
+AreFewDevices ls = AllByRecursion (λ l. length l.devices ≤ MOST_DEVICES_OF_LEVEL) ls
 
 -- the entry of a start
 abbrev pub start_entry : ℕ → Start → Entry
@@ -100,7 +132,9 @@ reply_entry m req answer = record { moment = m; event = Event.Reply (record { re
 
 -- the least request that waits for the operation of a number, if that is open
 abbrev pub next_of : History → ℕ → Option ℕ
-next_of h req = option_and_then (λ o. first_of (unanswered o.req h)) (find (λ (o : Operation). o.req == req) (open_operations h))
+next_of h req =
+    option_and_then (λ o. first_of (unanswered o.req h))
+    (find (λ (o : Operation). o.req == req) (open_operations h))
 
 -- no record speaks at a later moment
 abbrev pub AreBy : ℕ → List KeptOperation → Type 0
@@ -135,6 +169,12 @@ first_ending h later (r ∷ rs) (o ∷ os) = sooner_ending (ending_of h r.moment
 -- its number
 abbrev pub first_ended : History → ℕ → List KeptOperation → Option ℕ
 first_ended h later rs = option_map (λ (e : Ending). e.req) (first_ending h later rs (open_operations h))
+
+-- each record speaks at this moment, but for those of the operations whose standing slot comes to its action's end by
+-- then: they are still to come
+abbrev pub AreAtButEnding : History → ℕ → List KeptOperation → Type 0
+AreAtButEnding h m rs =
+    AllZip (λ r o. ending_of h r.moment m o ≡ None → r.moment ≡ m) rs (open_operations h)
 
 -- a try that may come next: its slot, and since when it is ready
 pub record Try : Type 0 where

@@ -7,6 +7,7 @@ ghost use Rattle.fnc_ops.specs.FreshRecords as FreshRecords;
 
 use crate::fresh::fresh_levels;
 use crate::ops::Operation;
+use fnc_journal::limits::MOST_DEVICES;
 use fnc_journal::{Journal, NoMemory, Plan, Scope};
 use fnc_records::{LevelRecord, OperationRecord, SlotRecord};
 use std::alloc::Global;
@@ -67,9 +68,10 @@ fn unseen_operation(
     plan: &Plan,
 ) -> Result<OperationRecord, NoMemory>
     requires levels { AreFewDevices plan.now.levels }
-    requires candidates { length plan.now.candidates ≤ 128 }
+    requires candidates { length plan.now.candidates ≤ MOST_DEVICES }
     requires over { operation.moment + operation.total < 2 ^ 64 }
-    ensures { IfOk result (λ r. r ≡ FreshRecords.unseen_operation (FreshRecords.begun_by operation plan.now journal.now.history)) }
+    ensures { IfOk result (λ r. r ≡
+        FreshRecords.unseen_operation (FreshRecords.begun_by operation plan.now journal.now.history)) }
 {
     let levels = fresh_levels(alloc, journal, &operation, plan)?;
     let mut members = Vec::new(alloc);
@@ -98,9 +100,10 @@ pub fn fresh_operation(
     plan: &Plan,
 ) -> Result<OperationRecord, NoMemory>
     requires levels { AreFewDevices plan.now.levels }
-    requires candidates { length plan.now.candidates ≤ 128 }
+    requires candidates { length plan.now.candidates ≤ MOST_DEVICES }
     requires over { operation.moment + operation.total < 2 ^ 64 }
-    ensures { IfOk result (λ r. r ≡ FreshRecords.fresh_operation (FreshRecords.begun_by operation plan.now journal.now.history)) }
+    ensures { IfOk result (λ r. r ≡
+        FreshRecords.fresh_operation (FreshRecords.begun_by operation plan.now journal.now.history)) }
 {
     let moment = operation.moment;
     let mut record = unseen_operation(alloc, journal, operation, plan)?;

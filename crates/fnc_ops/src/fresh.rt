@@ -1,6 +1,7 @@
 // The records of slots, levels and candidates of an operation that begins.
 
-ghost use Rattle.std.specs.Prelude.{◌≡◌, ◌≤◌, [], length, map, is_none, option_map, option_and_then, if◌then◌else◌, IfOk, OnOk};
+ghost use Rattle.std.specs.Prelude.{◌≡◌, ◌≤◌, [], length, map, is_none, option_map, option_and_then, if◌then◌else◌};
+ghost use Rattle.std.specs.Prelude.{IfOk, OnOk};
 ghost use Rattle.std.specs.List.{list_any};
 ghost use Rattle.fnc_ops.specs.Stands.{AreFewDevices};
 ghost use Rattle.fnc_journal.specs.Missing.{append_some};
@@ -8,6 +9,7 @@ ghost use Rattle.fnc_journal.specs.Slots as Slots;
 ghost use Rattle.fnc_ops.specs.FreshRecords as FreshRecords;
 
 use crate::ops::Operation;
+use fnc_journal::limits::{MOST_DEVICES, MOST_DEVICES_OF_LEVEL};
 use fnc_journal::{
     Candidate, Definition, Journal, Kind, NoMemory, Phase, Plan, PlanLevel, Reg, Req, Scope, Slot,
     Text,
@@ -24,7 +26,8 @@ pub(crate) struct Device<'a> {
 
 /// The device of a registration.
 pub(crate) fn device_of<'a>(journal: &'a Journal, reg: Reg) -> Option<Device<'a>>
-    ensures { option_map (λ d. record { reg = d.reg.0; definition = d.definition.now }) result ≡ Slots.device_of journal.now.history reg }
+    ensures { option_map (λ d. record { reg = d.reg.0; definition = d.definition.now }) result ≡
+        Slots.device_of journal.now.history reg }
 {
     match journal.registration(reg) {
         None => None,
@@ -41,7 +44,8 @@ pub(crate) fn fit_device<'a>(
     kind: Kind,
     place: Option<Reg>,
 ) -> Option<Device<'a>>
-    ensures { option_map (λ d. record { reg = d.reg.0; definition = d.definition.now }) result ≡ Slots.place_of kind journal.now.history place }
+    ensures { option_map (λ d. record { reg = d.reg.0; definition = d.definition.now }) result ≡
+        Slots.place_of kind journal.now.history place }
 {
     match place {
         None => None,
@@ -77,7 +81,8 @@ pub(crate) fn is_unfit(journal: &Journal, kind: Kind, places: &[Option<Reg>]) ->
 
 /// The record of a slot that runs an action on a device.
 fn fresh_slot(operation: &Operation, slot: Slot, kind: Kind, device: Device) -> SlotRecord
-    ensures { result ≡ FreshRecords.fresh_slot operation.now.target operation.now.coin (record { slot = slot; reg = device.entry.reg.0; definition = device.entry.definition.now; kind = kind }) }
+    ensures { result ≡ FreshRecords.fresh_slot operation.now.target operation.now.coin
+        (record { slot = slot; reg = device.entry.reg.0; definition = device.entry.definition.now; kind = kind }) }
 {
     let allowed = device.definition.allowed(kind);
     SlotRecord {
@@ -103,7 +108,8 @@ fn fresh_slot(operation: &Operation, slot: Slot, kind: Kind, device: Device) -> 
 /// The Act slot of a device, or its Off slot where the action is split.
 fn act_slot(operation: &Operation, split: bool, level: u8, place: u8, device: Device) -> SlotRecord
     ensures { result ≡ FreshRecords.fresh_slot operation.now.target operation.now.coin
-        (Slots.act_task split operation.now.kind level place (record { reg = device.entry.reg.0; definition = device.entry.definition.now })) }
+        (Slots.act_task split operation.now.kind level place
+        (record { reg = device.entry.reg.0; definition = device.entry.definition.now })) }
 {
     let (phase, kind) = if split {
         (Phase::Off, Kind::Off)
@@ -145,7 +151,8 @@ fn first_at(
     reg: Option<Reg>,
 ) -> Option<SlotRecord>
     ensures { result ≡ option_map (FreshRecords.fresh_slot operation.now.target operation.now.coin)
-        (option_map (Slots.act_task split operation.now.kind level place) (Slots.place_of operation.now.kind journal.now.history reg)) }
+        (option_map (Slots.act_task split operation.now.kind level place)
+        (Slots.place_of operation.now.kind journal.now.history reg)) }
 {
     match fit_device(journal, operation.kind, reg) {
         None => None,
@@ -188,9 +195,10 @@ fn firsts(
     level: u8,
     places: &[Option<Reg>],
 ) -> Result<Vec<SlotRecord>, NoMemory>
-    requires { length places.now ≤ 8 }
+    requires { length places.now ≤ MOST_DEVICES_OF_LEVEL }
     ensures { IfOk result (λ slots. slots.items ≡ map (FreshRecords.fresh_slot operation.now.target operation.now.coin)
-        (FreshRecords.firsts_at split operation.now.kind level 0 (map (Slots.place_of operation.now.kind journal.now.history) places.now))) }
+        (FreshRecords.firsts_at split operation.now.kind level 0
+        (map (Slots.place_of operation.now.kind journal.now.history) places.now))) }
 {
     let mut slots = Vec::new(alloc);
     let mut place = 0;
@@ -210,7 +218,7 @@ fn ons(
     level: u8,
     places: &[Option<Reg>],
 ) -> Result<Vec<SlotRecord>, NoMemory>
-    requires { length places.now ≤ 8 }
+    requires { length places.now ≤ MOST_DEVICES_OF_LEVEL }
     ensures { IfOk result (λ slots. slots.items ≡ map (FreshRecords.fresh_slot operation.now.target operation.now.coin)
         (FreshRecords.ons_at level 0 (map (Slots.place_of operation.now.kind journal.now.history) places.now))) }
 {
@@ -243,9 +251,10 @@ fn ons_where(
     level: u8,
     places: &[Option<Reg>],
 ) -> Result<Vec<SlotRecord>, NoMemory>
-    requires { length places.now ≤ 8 }
+    requires { length places.now ≤ MOST_DEVICES_OF_LEVEL }
     ensures { IfOk result (λ slots. slots.items ≡ map (FreshRecords.fresh_slot operation.now.target operation.now.coin)
-        (if split then FreshRecords.ons_at level 0 (map (Slots.place_of operation.now.kind journal.now.history) places.now) else [])) }
+        (if split then FreshRecords.ons_at level 0
+        (map (Slots.place_of operation.now.kind journal.now.history) places.now) else [])) }
 {
     if split {
         ons(alloc, journal, operation, level, places)
@@ -276,8 +285,9 @@ fn fit_level(
     index: u8,
     places: &[Option<Reg>],
 ) -> Result<LevelRecord, NoMemory>
-    requires { length places.now ≤ 8 }
-    ensures { IfOk result (λ l. l ≡ FreshRecords.fit_level operation.now.target operation.now.coin operation.now.kind index
+    requires { length places.now ≤ MOST_DEVICES_OF_LEVEL }
+    ensures { IfOk result (λ l. l ≡
+        FreshRecords.fit_level operation.now.target operation.now.coin operation.now.kind index
         (map (Slots.place_of operation.now.kind journal.now.history) places.now)) }
 {
     let split = splits(operation.kind, places.len());
@@ -298,7 +308,7 @@ fn fresh_level(
     operation: &Operation,
     level: &PlanLevel,
 ) -> Result<LevelRecord, NoMemory>
-    requires { length level.now.devices ≤ 8 }
+    requires { length level.now.devices ≤ MOST_DEVICES_OF_LEVEL }
     ensures { IfOk result (λ l. l ≡ FreshRecords.fresh_level operation.now.target operation.now.coin
         (Slots.rank_of operation.now.kind journal.now.history level.now)) }
 {
@@ -318,7 +328,8 @@ fn query_slot(
     device: Device,
 ) -> Option<SlotRecord>
     ensures { result ≡ option_map (FreshRecords.fresh_slot operation.now.target operation.now.coin)
-        (Slots.queried place query (record { reg = device.entry.reg.0; definition = device.entry.definition.now })).query }
+        (Slots.queried place query
+        (record { reg = device.entry.reg.0; definition = device.entry.definition.now })).query }
 {
     match query {
         None => None,
@@ -341,7 +352,8 @@ fn candidate_level(
     query: Option<Kind>,
     device: Device,
 ) -> Result<LevelRecord, NoMemory>
-    ensures { IfOk result (λ l. l ≡ FreshRecords.fresh_candidate operation.now.kind operation.now.target operation.now.coin
+    ensures { IfOk result (λ l. l ≡
+        FreshRecords.fresh_candidate operation.now.kind operation.now.target operation.now.coin
         (Slots.queried place query (record { reg = device.entry.reg.0; definition = device.entry.definition.now }))) }
 {
     let mut firsts = Vec::new(alloc);
@@ -364,7 +376,8 @@ fn fresh_candidate(
     place: u8,
     candidate: Candidate,
 ) -> Result<Option<LevelRecord>, NoMemory>
-    ensures { IfOk result (λ l. l ≡ option_map (FreshRecords.fresh_candidate operation.now.kind operation.now.target operation.now.coin)
+    ensures { IfOk result (λ l. l ≡
+        option_map (FreshRecords.fresh_candidate operation.now.kind operation.now.target operation.now.coin)
         (option_map (Slots.queried place candidate.query) (Slots.device_of journal.now.history candidate.reg))) }
 {
     match device_of(journal, candidate.reg) {
@@ -392,8 +405,9 @@ fn candidates(
     operation: &Operation,
     candidates: &[Candidate],
 ) -> Result<Vec<LevelRecord>, NoMemory>
-    requires { length candidates.now ≤ 128 }
-    ensures { IfOk result (λ levels. levels.items ≡ map (FreshRecords.fresh_candidate operation.now.kind operation.now.target operation.now.coin)
+    requires { length candidates.now ≤ MOST_DEVICES }
+    ensures { IfOk result (λ levels. levels.items ≡
+        map (FreshRecords.fresh_candidate operation.now.kind operation.now.target operation.now.coin)
         (Slots.queried_from 0 journal.now.history candidates.now)) }
 {
     let mut levels = Vec::new(alloc);
@@ -414,7 +428,8 @@ fn levels(
     plan: &[PlanLevel],
 ) -> Result<Vec<LevelRecord>, NoMemory>
     requires { AreFewDevices plan.now }
-    ensures { IfOk result (λ levels. levels.items ≡ map (FreshRecords.fresh_level operation.now.target operation.now.coin)
+    ensures { IfOk result (λ levels. levels.items ≡
+        map (FreshRecords.fresh_level operation.now.target operation.now.coin)
         (map (Slots.rank_of operation.now.kind journal.now.history) plan.now)) }
 {
     let mut levels = Vec::new(alloc);
@@ -432,8 +447,9 @@ pub fn fresh_levels(
     plan: &Plan,
 ) -> Result<Vec<LevelRecord>, NoMemory>
     requires levels { AreFewDevices plan.now.levels }
-    requires candidates { length plan.now.candidates ≤ 128 }
-    ensures { IfOk result (λ levels. levels.items ≡ FreshRecords.fresh_levels (FreshRecords.begun_by operation.now plan.now journal.now.history)) }
+    requires candidates { length plan.now.candidates ≤ MOST_DEVICES }
+    ensures { IfOk result (λ levels. levels.items ≡
+        FreshRecords.fresh_levels (FreshRecords.begun_by operation.now plan.now journal.now.history)) }
 {
     match plan.scope {
         Scope::Nothing => candidates(alloc, journal, operation, plan.candidates.as_slice()),

@@ -1,12 +1,16 @@
 // The records of all operations that are open.
 
-ghost use Rattle.std.specs.Prelude.{◌≡◌, ◌∷◌, [], ◌<◌, ◌≤◌, ◌+◌, ◌-◌, ◌++◌, ◌^◌, ◌==◌, ℕ, List, length, map, find, option_map, true, false, Some, None, OnOk, OnErr, slice_get};
+ghost use Rattle.std.specs.Prelude.{◌≡◌, ◌∷◌, [], ◌<◌, ◌≤◌, ◌+◌, ◌-◌, ◌++◌, ◌^◌, ◌==◌, ℕ, List, length, map, find};
+ghost use Rattle.std.specs.Prelude.{option_map, true, false, Some, None, OnOk, OnErr, slice_get};
 ghost use Rattle.std.specs.Option.{option_copied};
 ghost use Rattle.fnc_journal.specs.History.{History};
 ghost use Rattle.fnc_journal.specs.Operations as Operations;
 ghost use Rattle.fnc_records.specs.OperationRecords as OperationRecords;
 ghost use Rattle.fnc_ops.specs.OpsRecords as OpsRecords;
-ghost use Rattle.fnc_ops.specs.Stands.{StandsFor, AreAt, AreBy, AreBounded, AreFewDevices, first_ended, IsStandingOf, IsTryOf, Try, AwaitsTry, IsFirstDue, behind, ask_entry, begun_request, start_entry, exit_entry, reply_entry, confirm_entry, next_of};
+ghost use Rattle.fnc_ops.specs.Stands.{AreAtButEnding, SpeaksAt};
+ghost use Rattle.fnc_ops.specs.Stands.{StandsFor, AreAt, AreBy, AreBounded, AreFewDevices, first_ended, IsStandingOf};
+ghost use Rattle.fnc_ops.specs.Stands.{IsTryOf, Try, AwaitsTry, IsFirstDue, behind, ask_entry, begun_request};
+ghost use Rattle.fnc_ops.specs.Stands.{start_entry, exit_entry, reply_entry, confirm_entry, next_of};
 ghost use Rattle.fnc_ops.specs.OpsRecords.{OthersWait, AllWait};
 ghost use Rattle.fnc_journal.specs.Found as Found;
 ghost use Rattle.fnc_journal.specs.Found.{starts, asks};
@@ -20,8 +24,9 @@ ghost use Rattle.fnc_journal.specs.Startable.{is_alive};
 use crate::begin::fresh_operation;
 use crate::records::{
     first_due, first_expired, first_member, join, joinable, keep_waiting, owed_with, see_confirm,
-    see_exit, see_moment, see_moment_of, see_reply, see_start, standing_of, waiting_of,
+    see_exit, see_moment, see_moment_unless_ending, see_reply, see_start, standing_of, waiting_of,
 };
+use fnc_journal::limits::{DAY, GREATEST_MOMENT, MOST_DEVICES, MOST_LEVELS_OF_TARGET};
 use fnc_journal::{
     Answer, Confirmation, Ended, Journal, Kind, NoMemory, Plan, Req, Request, Start, Text,
 };
@@ -82,10 +87,11 @@ impl Ops {
     }
 
     /// Where an operation stands, at the moment at which its record speaks. None where it is not open or
-    /// stands nowhere.
+    /// stands nowhere. It may be asked between two answers of `expire` too: then it is exact of each operation
+    /// but those that `expire` has still to give.
     pub fn standing(&self, operation: Req) -> Option<Standing>
-        ensures { (h : History) (moment : ℕ) → Lawful h → settled h moment ≡ true → AreAt moment self.now.operations → StandsFor self.now h →
-            IsStandingOf h moment operation.0 result }
+        ensures { (h : History) (moment : ℕ) → Lawful h → StandsFor self.now h →
+            SpeaksAt moment operation.0 self.now.operations → IsStandingOf h moment operation.0 result }
     {
         self.kept_standing(operation)
     }
@@ -100,7 +106,8 @@ impl Ops {
     /// None where it is not open, stands nowhere, or a run of the slot is alive.
     pub fn waiting(&self, operation: Req) -> Option<Standing>
         ensures value { result ≡ OpsRecords.waiting operation.0 self.now.operations }
-        ensures tries { (h : History) (moment : ℕ) → Lawful h → settled h moment ≡ true → AreAt moment self.now.operations → StandsFor self.now h →
+        ensures tries { (h : History) (moment : ℕ) → Lawful h → settled h moment ≡ true →
+            AreAt moment self.now.operations → StandsFor self.now h →
             IsTryOf h moment result (find (λ o. o.req == operation.0) (open_operations h)) }
     {
         self.kept_waiting(operation)
@@ -129,7 +136,8 @@ impl Ops {
     }
 
     fn kept_joined(&mut self, operation: Req, req: Req) -> Result<(), NoMemory>
-        ensures ok { OnOk result (self.new ≡ record self.old { operations = OpsRecords.joined operation.0 req self.old.operations }) }
+        ensures ok { OnOk result (self.new ≡
+            record self.old { operations = OpsRecords.joined operation.0 req self.old.operations }) }
         ensures err { OnErr result (self.new ≡ self.old) }
     {
         join(&mut self.records, operation, req)
@@ -175,15 +183,17 @@ impl Ops {
         requires lawful { Lawful journal.now.history }
         requires at { AreAt operation.moment self.old.operations }
         requires number { operation.req.0 ≡ asks journal.now.history }
-        requires early { operation.moment ≤ 10 ^ 15 }
-        requires short { operation.total ≤ 86_400_000 }
+        requires early { operation.moment ≤ GREATEST_MOMENT }
+        requires short { operation.total ≤ DAY }
         requires planned { plan ≡ Planned.plan (wanted_by operation plan.scope) journal.now.history }
         requires bounded { AreBounded journal.now.history }
-        requires few_candidates { length plan.candidates ≤ 128 }
-        requires few_levels { length plan.levels ≤ 9 }
+        requires few_candidates { length plan.candidates ≤ MOST_DEVICES }
+        requires few_levels { length plan.levels ≤ MOST_LEVELS_OF_TARGET }
         requires few_devices { AreFewDevices plan.levels }
         ensures ok { (client : List ℕ) →
-            OnOk result (StandsFor self.new (ask_entry operation.moment (begun_request operation client plan.scope) ∷ journal.now.history)) }
+            OnOk result
+            (StandsFor self.new
+            (ask_entry operation.moment (begun_request operation client plan.scope) ∷ journal.now.history)) }
         ensures at { OnOk result (AreAt operation.moment self.new.operations) }
         ensures others { OthersWait operation.req.0 self.old self.new }
         ensures err { OnErr result (self.new ≡ self.old) }
@@ -231,22 +241,25 @@ impl Ops {
         ensures { self.new ≡ record self.old { operations = OpsRecords.moved operation moment self.old.operations } }
     {
         match operation {
-            Some(req) => see_moment_of(&mut self.records, req, moment),
+            Some(req) => see_moment_unless_ending(&mut self.records, req, moment),
             None => see_moment(&mut self.records, moment),
         }
     }
 
     /// A later moment has come. Of the operations whose standing slot has come to its action's end the first is
-    /// taken, by that end and then by number, and its record speaks at the moment from now on. None where there
-    /// is none: then all records do.
+    /// taken, by that end and then by number, and its record speaks at the moment from now on, as do those of all
+    /// operations that are not still to be taken. None where there is none: then all records do.
     pub fn expire(&mut self, journal: &Journal, moment: u64) -> Option<Req>
         requires stands { StandsFor self.old journal.now.history }
         requires later { AreBy moment self.old.operations }
         ensures first { option_map (λ r. r.0) result ≡ first_ended journal.now.history moment self.old.operations }
         ensures stands { StandsFor self.new journal.now.history }
-        ensures one { (req : Req) → result ≡ Some req → self.new.operations ≡ map (OperationRecords.only req.0 (OperationRecords.at_moment moment)) self.old.operations }
+        ensures told { (req : Req) → result ≡ Some req → SpeaksAt moment req.0 self.new.operations }
+        ensures others { AreAtButEnding journal.now.history moment self.new.operations }
+        ensures moved { self.new.operations ≡ OpsRecords.moved result moment self.old.operations }
         ensures later { AreBy moment self.new.operations }
-        ensures fewer { (req : Req) → result ≡ Some req → behind moment self.new.operations < behind moment self.old.operations }
+        ensures fewer { (req : Req) → result ≡ Some req →
+            behind moment self.new.operations < behind moment self.old.operations }
         ensures same { map (λ r. r.req) self.new.operations ≡ map (λ r. r.req) self.old.operations }
         ensures all { result ≡ None → AreAt moment self.new.operations }
     {
@@ -268,24 +281,28 @@ impl Ops {
         requires at { AreAt moment self.old.operations }
         requires lawful { Lawful journal.now.history }
         requires number { start.now.run.0 ≡ starts journal.now.history }
-        requires early { moment ≤ 10 ^ 15 }
+        requires early { moment ≤ GREATEST_MOMENT }
         requires few { length journal.now.history + 1 < 2 ^ 32 }
         requires settled { settled journal.now.history moment ≡ true }
-        ensures stands { (y : Try) → AwaitsTry journal.now.history moment start.now.req.0 y → start.now.slot ≡ y.task.slot →
+        ensures stands { (y : Try) →
+            AwaitsTry journal.now.history moment start.now.req.0 y → start.now.slot ≡ y.task.slot →
             StandsFor self.new (start_entry moment start.now ∷ journal.now.history) }
         ensures at { AreAt moment self.new.operations }
         ensures settled { settled (start_entry moment start.now ∷ journal.now.history) moment ≡ true }
         ensures waits { (y : Try) → AwaitsTry journal.now.history moment start.now.req.0 y →
             OpsRecords.waiting start.now.req.0 self.new.operations ≡ None }
         ensures others { OthersWait start.now.req.0 self.old self.new }
-        ensures owes { (y : Try) → AwaitsTry journal.now.history moment start.now.req.0 y → start.now.slot ≡ y.task.slot →
+        ensures owes { (y : Try) →
+            AwaitsTry journal.now.history moment start.now.req.0 y → start.now.slot ≡ y.task.slot →
             Owed.owed (start_entry moment start.now ∷ journal.now.history) + 1 ≡ Owed.owed journal.now.history }
     {
         self.kept_started(start.req, moment);
     }
 
     fn kept_confirmed(&mut self, target: &str)
-        ensures { self.new ≡ record self.old { operations = map (OperationRecords.operation_confirmed target.now) self.old.operations } }
+        ensures { self.new ≡ record self.old {
+          operations = map (OperationRecords.operation_confirmed target.now) self.old.operations;
+        } }
     {
         see_confirm(&mut self.records, target);
     }
@@ -354,7 +371,8 @@ impl Ops {
     pub fn next_member(&mut self, operation: Req) -> Option<Req>
         ensures member { (h : History) → StandsFor self.old h → option_map (λ r. r.0) result ≡ next_of h operation.0 }
         ensures none { result ≡ None → self.new ≡ self.old }
-        ensures stands { (h : History) (req : Req) (moment : ℕ) (answer : Answer) → Lawful h → StandsFor self.old h → result ≡ Some req →
+        ensures stands { (h : History) (req : Req) (moment : ℕ) (answer : Answer) →
+            Lawful h → StandsFor self.old h → result ≡ Some req →
             StandsFor self.new (reply_entry moment req answer ∷ h) }
         ensures at { (moment : ℕ) → AreAt moment self.old.operations → AreAt moment self.new.operations }
         ensures others { (h : History) → StandsFor self.old h → OthersWait operation.0 self.old self.new }

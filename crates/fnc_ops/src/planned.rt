@@ -9,6 +9,7 @@ ghost use Rattle.fnc_ops.specs.Stands.{AreBounded, AreFewDevices};
 
 use crate::begin::is_levelled;
 use crate::fresh::{device_of, fit_device, is_unfit, splits};
+use fnc_journal::limits::{MOST_DEVICES, MOST_LEVELS_OF_TARGET};
 use fnc_journal::{Candidate, Definition, Journal, Kind, Plan, PlanLevel, Reg};
 
 /// The tries of an action on a device.
@@ -54,7 +55,8 @@ fn place_tries(journal: &Journal, kind: Kind, split: bool, place: Option<Reg>) -
 }
 
 fn places_tries(journal: &Journal, kind: Kind, split: bool, places: &[Option<Reg>]) -> u32
-    ensures { result ≡ PlanTries.sum_from 0 (map (λ p. PlanTries.place_tries split kind (Slots.place_of kind journal.now.history p)) places.now) }
+    ensures { result ≡ PlanTries.sum_from 0
+        (map (λ p. PlanTries.place_tries split kind (Slots.place_of kind journal.now.history p)) places.now) }
 {
     let mut tries: u32 = 0;
     for place in places {
@@ -119,7 +121,8 @@ fn candidate_tries(journal: &Journal, kind: Kind, levelled: bool, candidate: Can
 }
 
 fn candidates_tries(journal: &Journal, kind: Kind, levelled: bool, candidates: &[Candidate]) -> u32
-    ensures { result ≡ PlanTries.sum_from 0 (map (PlanTries.candidate_tries levelled kind journal.now.history) candidates.now) }
+    ensures { result ≡ PlanTries.sum_from 0
+        (map (PlanTries.candidate_tries levelled kind journal.now.history) candidates.now) }
 {
     let mut tries: u32 = 0;
     for candidate in candidates {
@@ -150,10 +153,11 @@ fn plan_tries(journal: &Journal, kind: Kind, plan: &Plan) -> u32
 /// The allowed tries of all slots of an operation of this kind that begins now with a plan.
 pub fn allowed_tries(journal: &Journal, kind: Kind, plan: &Plan) -> u32
     requires bounded { AreBounded journal.now.history }
-    requires few_candidates { length plan.now.candidates ≤ 128 }
-    requires few_levels { length plan.now.levels ≤ 9 }
+    requires few_candidates { length plan.now.candidates ≤ MOST_DEVICES }
+    requires few_levels { length plan.now.levels ≤ MOST_LEVELS_OF_TARGET }
     requires few_devices { AreFewDevices plan.now.levels }
-    ensures tries { (req : ℕ) (asked : Asked) → asked.kind ≡ kind → asked.before ≡ journal.now.history → result ≡ tries_of (Slots.all_slots (Slots.operation_by req asked plan.now)) }
+    ensures tries { (req : ℕ) (asked : Asked) → asked.kind ≡ kind → asked.before ≡ journal.now.history →
+        result ≡ tries_of (Slots.all_slots (Slots.operation_by req asked plan.now)) }
     ensures few { result ≤ 6_400 }
 {
     plan_tries(journal, kind, plan)

@@ -66,11 +66,11 @@ pub(crate) fn see_moment(records: &mut [OperationRecord], moment: u64)
     }
 }
 
-pub(crate) fn see_moment_of(records: &mut [OperationRecord], operation: Req, moment: u64)
-    ensures { records.new ≡ map (OperationRecords.only operation.0 (OperationRecords.at_moment moment)) records.old }
+pub(crate) fn see_moment_unless_ending(records: &mut [OperationRecord], operation: Req, moment: u64)
+    ensures { records.new ≡ map (OperationRecords.at_moment_unless_ending operation.0 moment) records.old }
 {
     for record in records.iter_mut() {
-        record.see_moment_of(operation, moment);
+        record.see_moment_unless_ending(operation, moment);
     }
 }
 
@@ -132,7 +132,8 @@ pub(crate) fn first_due(records: &[OperationRecord], moment: u64) -> Option<Due>
 }
 
 pub(crate) fn see_start(records: &mut [OperationRecord], operation: Req, moment: u64)
-    ensures { records.new ≡ map (OperationRecords.only operation.0 (OperationRecords.start_standing moment)) records.old }
+    ensures { records.new ≡
+        map (OperationRecords.only operation.0 (OperationRecords.start_standing moment)) records.old }
 {
     for record in records.iter_mut() {
         record.start_of(operation, moment);
@@ -155,7 +156,9 @@ pub(crate) fn see_exit(
     listed: bool,
     moment: u64,
 )
-    ensures { records.new ≡ map (OperationRecords.only operation.0 (OperationRecords.operation_ended slot exit listed moment)) records.old }
+    ensures { records.new ≡ map
+        (OperationRecords.only operation.0 (OperationRecords.operation_ended slot exit listed moment))
+        records.old }
 {
     for record in records.iter_mut() {
         record.see_exit_of(operation, slot, exit, listed, moment);

@@ -17,5 +17,6 @@ runs-few s (a ∷ xs) =
 pub failed-few : (t : Task) (over : ℕ) (xs : List Act) → failed t over xs ≤ length xs
 failed-few t over [] = omega arith
 failed-few t over (a ∷ xs) =
-    let more : failed t over (a ∷ xs) ≤ length xs + 1 = counted (fails_here t over xs a) (failed t over xs) (length xs) (failed-few t over xs) in
+    let more : failed t over (a ∷ xs) ≤ length xs + 1 = counted (fails_here t over xs a) (failed t over xs) (length xs)
+    (failed-few t over xs) in
     omega (arith, more)

@@ -34,22 +34,26 @@ module _ (o : Operation) (m : ℕ) (xs : List Act) where
       ap₂ ◌&&◌ (zip_all (IsLevelSlot o xs) _ _ slot_confirmed_is r.firsts l.firsts h.firsts)
       (ap (λ b. b || nat_le o.over m) (zip_all (IsLevelSlot o xs) _ _ slot_concluded_is r.ons l.ons h.ons))
 
-  pub both_or : {A B : Type 0} (R : A → B → Type 0) (a b : Option A) (c d : Option B) → BothOr R a c → BothOr R b d → BothOr R (option_or a b) (option_or c d)
+  pub both_or : {A B : Type 0} (R : A → B → Type 0) (a b : Option A) (c d : Option B) → BothOr R a c → BothOr R b d →
+      BothOr R (option_or a b) (option_or c d)
   both_or R None b None d s t = t
   both_or R None b (Some c) d s t = absurd s
   both_or R (Some a) b None d s t = absurd s
   both_or R (Some a) b (Some c) d s t = s
 
   -- where an operation stands in the level
-  pub standing_in_is : (r : KeptLevel) (l : Rank) → IsLevel o xs r l → BothOr (IsLevelSlot o xs) (LevelRecords.standing_in m r) (Standing.standing_in o m xs l)
+  pub standing_in_is : (r : KeptLevel) (l : Rank) → IsLevel o xs r l → BothOr (IsLevelSlot o xs)
+      (LevelRecords.standing_in m r) (Standing.standing_in o m xs l)
   standing_in_is r l h =
       both_or (IsLevelSlot o xs) _ _ _ _
       (zip_find (IsLevelSlot o xs) _ _ (λ a b e. ap not (slot_confirmed_is a b e)) r.firsts l.firsts h.firsts)
       (zip_find (IsLevelSlot o xs) _ _ (λ a b e. ap not (slot_concluded_is a b e)) r.ons l.ons h.ons)
 
   -- whether its candidate is capable
-  pub capable_query_is : (q : Option SlotRecord) (t : Option Task) → IsQuery o xs q t → capable_query q ≡ Standing.capable_query o xs t
+  pub capable_query_is : (q : Option SlotRecord) (t : Option Task) → IsQuery o xs q t →
+      capable_query q ≡ Standing.capable_query o xs t
   capable_query_is None None h = refl
   capable_query_is None (Some t) h = absurd h
   capable_query_is (Some q) None h = absurd h
-  capable_query_is (Some q) (Some t) h = let a : q.succeeded ≡ answered t o.over xs = answered_is o m xs q t h.is h.asking in rw (h.is.kind, h.is.listed, a) refl
+  capable_query_is (Some q) (Some t) h = let a : q.succeeded ≡ answered t o.over xs =
+      answered_is o m xs q t h.is h.asking in rw (h.is.kind, h.is.listed, a) refl

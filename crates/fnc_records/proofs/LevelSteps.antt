@@ -1,5 +1,31 @@
 -- A level's record stays what the acts say when a run of its operation starts or ends.
-use Rattle.std.proofs.Common.{ℕ, List, ◌∷◌, Bool, ◌≤◌, ◌<◌, ◌+◌, ◌^◌, Option, Some, None, arith, length, ◌≡◌, true, false, refl, ap, sym, ◌∙◌, subst, cond, not, ◌==◌, false-eqb}
+use Rattle.std.proofs.Common.{
+  ℕ,
+  List,
+  ◌∷◌,
+  Bool,
+  ◌≤◌,
+  ◌<◌,
+  ◌+◌,
+  ◌^◌,
+  Option,
+  Some,
+  None,
+  arith,
+  length,
+  ◌≡◌,
+  true,
+  false,
+  refl,
+  ap,
+  sym,
+  ◌∙◌,
+  subst,
+  cond,
+  not,
+  ◌==◌,
+  false-eqb,
+}
 use Rattle.std.proofs.lemmas.Bool.{or_parts}
 use Rattle.std.specs.Prelude.{option_map}
 use Rattle.std.specs.List.{AllByRecursion}
@@ -9,7 +35,18 @@ use Rattle.fnc_journal.specs.Slots.{Task, Operation, Rank, time}
 use Rattle.fnc_journal.specs.Acts.{Act, runs, failed, concluded}
 use Rattle.fnc_records.specs.declared.slot.SlotRecord.{SlotRecord}
 use Rattle.fnc_records.specs.KeptLevel.{KeptLevel}
-use Rattle.fnc_records.specs.SlotRecords.{capped, started, ended, started_same, ended_same, succeeded_now, failed_now, is_in_time, is_concluded, is_spent}
+use Rattle.fnc_records.specs.SlotRecords.{
+  capped,
+  started,
+  ended,
+  started_same,
+  ended_same,
+  succeeded_now,
+  failed_now,
+  is_in_time,
+  is_concluded,
+  is_spent,
+}
 use Rattle.fnc_records.specs.SlotFacts.{IsSlot, last_of}
 use Rattle.fnc_records.specs.LevelRecords.{level_started, level_ended}
 use Rattle.fnc_records.specs.LevelFacts.{IsShort, IsLevelSlot, IsQuerySlot, IsQuery, IsLevel, AreFew, IsTrying}
@@ -38,7 +75,8 @@ ForSome P (Some x) = P x
 
 -- a start
 module _ (o : Operation) (m run : ℕ) (s : Slot) (xs : List Act) (few : AreFew xs) (early : m < 2 ^ 63) where
-  is-started : (r : SlotRecord) (t : Task) → IsShort o t → IsSlot o xs r t → IsSlot o (Act.Begun m run s ∷ xs) (started s m r) t
+  is-started : (r : SlotRecord) (t : Task) → IsShort o t → IsSlot o xs r t → IsSlot o (Act.Begun m run s ∷ xs)
+      (started s m r) t
   is-started r t short h =
       let n : runs t.slot xs ≤ length xs = runs-few t.slot xs in
       let few_of : length xs + 1 < 2 ^ 32 = few in
@@ -46,7 +84,8 @@ module _ (o : Operation) (m run : ℕ) (s : Slot) (xs : List Act) (few : AreFew 
       slot-started o r t m run s xs h (omega (arith, n, few_of)) (omega (arith, lasts, early))
 
   -- a slot that is started was not concluded
-  trying-started : (r : SlotRecord) (t : Task) → IsSlot o xs r t → IsFree o m s xs t → IsTrying r → IsTrying (started s m r)
+  trying-started : (r : SlotRecord) (t : Task) → IsSlot o xs r t → IsFree o m s xs t → IsTrying r →
+      IsTrying (started s m r)
   trying-started r t h free k = go (same_slot t.slot s) refl
     where
       go : (b : Bool) → same_slot t.slot s ≡ b → IsTrying (started s m r)
@@ -55,23 +94,41 @@ module _ (o : Operation) (m run : ℕ) (s : Slot) (xs : List Act) (few : AreFew 
           let open_now : is_concluded m r ≡ false = concluded_is o m xs r t h ∙ free e in
           subst IsTrying (sym (ap (λ b. cond b (started_same m r) r) same)) (record {
             few = k.few;
-            running = λ at f. let now = or_parts r.succeeded (is_spent m r) open_now in (now.0, (or_parts (r.failed == r.tries) (has_come r.end m) now.1).0);
+            running = λ at f. let now = or_parts r.succeeded (is_spent m r) open_now in
+                (now.0, (or_parts (r.failed == r.tries) (has_come r.end m) now.1).0);
           })
-      go false e = let same : same_slot r.slot s ≡ false = ap (λ w. same_slot w s) h.slot ∙ e in subst IsTrying (sym (ap (λ b. cond b (started_same m r) r) same)) k
+      go false e = let same : same_slot r.slot s ≡ false = ap (λ w. same_slot w s) h.slot ∙ e in
+          subst IsTrying (sym (ap (λ b. cond b (started_same m r) r) same)) k
 
-  pub level_slot-started : (r : SlotRecord) (t : Task) → IsFree o m s xs t → IsLevelSlot o xs r t → IsLevelSlot o (Act.Begun m run s ∷ xs) (started s m r) t
-  level_slot-started r t free h = record { is = is-started r t h.short h.is; acting = h.acting; short = h.short; trying = trying-started r t h.is free h.trying }
+  pub level_slot-started : (r : SlotRecord) (t : Task) → IsFree o m s xs t → IsLevelSlot o xs r t →
+      IsLevelSlot o (Act.Begun m run s ∷ xs) (started s m r) t
+  level_slot-started r t free h = record {
+    is = is-started r t h.short h.is;
+    acting = h.acting;
+    short =
+        h.short;
+    trying = trying-started r t h.is free h.trying;
+  }
 
-  pub query_slot-started : (r : SlotRecord) (t : Task) → IsFree o m s xs t → IsQuerySlot o xs r t → IsQuerySlot o (Act.Begun m run s ∷ xs) (started s m r) t
-  query_slot-started r t free h = record { is = is-started r t h.short h.is; asking = h.asking; short = h.short; trying = trying-started r t h.is free h.trying }
+  pub query_slot-started : (r : SlotRecord) (t : Task) → IsFree o m s xs t → IsQuerySlot o xs r t →
+      IsQuerySlot o (Act.Begun m run s ∷ xs) (started s m r) t
+  query_slot-started r t free h = record {
+    is = is-started r t h.short h.is;
+    asking = h.asking;
+    short =
+        h.short;
+    trying = trying-started r t h.is free h.trying;
+  }
 
-  pub query-started : (q : Option SlotRecord) (t : Option Task) → ForSome (IsFree o m s xs) t → IsQuery o xs q t → IsQuery o (Act.Begun m run s ∷ xs) (option_map (started s m) q) t
+  pub query-started : (q : Option SlotRecord) (t : Option Task) → ForSome (IsFree o m s xs) t → IsQuery o xs q t →
+      IsQuery o (Act.Begun m run s ∷ xs) (option_map (started s m) q) t
   query-started None None free h = tt
   query-started None (Some t) free h = h
   query-started (Some q) None free h = h
   query-started (Some q) (Some t) free h = query_slot-started q t free h
 
-  pub level-started : (r : KeptLevel) (l : Rank) → AreFree o m s xs l → IsLevel o xs r l → IsLevel o (Act.Begun m run s ∷ xs) (level_started s m r) l
+  pub level-started : (r : KeptLevel) (l : Rank) → AreFree o m s xs l → IsLevel o xs r l →
+      IsLevel o (Act.Begun m run s ∷ xs) (level_started s m r) l
   level-started r l free h = record {
     index = h.index;
     unfit = h.unfit;
@@ -80,8 +137,10 @@ module _ (o : Operation) (m run : ℕ) (s : Slot) (xs : List Act) (few : AreFew 
   }
 
 -- an exit of a run that is alive
-module _ (o : Operation) (m : ℕ) (s : Slot) (exit : Exit) (listed : Bool) (xs : List Act) (few : AreFew xs) (begun : ℕ) (alive : last_of s xs ≡ LastRun.Alive begun) where
-  is-ended : (r : SlotRecord) (t : Task) → IsSlot o xs r t → IsSlot o (Act.Ended m s exit listed ∷ xs) (ended s exit listed o.over m r) t
+module _ (o : Operation) (m : ℕ) (s : Slot) (exit : Exit) (listed : Bool) (xs : List Act) (few : AreFew xs) (begun : ℕ)
+    (alive : last_of s xs ≡ LastRun.Alive begun) where
+  is-ended : (r : SlotRecord) (t : Task) → IsSlot o xs r t → IsSlot o (Act.Ended m s exit listed ∷ xs)
+      (ended s exit listed o.over m r) t
   is-ended r t h =
       let n : failed t o.over xs ≤ length xs = failed-few t o.over xs in
       let few_of : length xs + 1 < 2 ^ 32 = few in
@@ -99,9 +158,14 @@ module _ (o : Operation) (m : ℕ) (s : Slot) (exit : Exit) (listed : Bool) (xs 
     where
       good : r.last ≡ LastRun.Alive begun → (b : Bool) → IsTrying (cond b (succeeded_now listed m r) (failed_now m r))
       good e true = record { few = k.few; running = λ at f. absurd (never_alive m at f) }
-      good e false = record { few = more_failed r.failed r.tries k.few (k.running begun e).1; running = λ at f. absurd (never_alive m at f) }
+      good e false = record {
+        few = more_failed r.failed r.tries k.few (k.running begun e).1;
+        running =
+            λ at f. absurd (never_alive m at f);
+      }
 
-      late : r.last ≡ LastRun.Alive begun → (b : Bool) → IsTrying (cond b (record r { last = LastRun.EndedAt m }) (cond (is_success r.kind exit) (succeeded_now listed m r) (failed_now m r)))
+      late : r.last ≡ LastRun.Alive begun → (b : Bool) → IsTrying (cond b (record r { last = LastRun.EndedAt m })
+          (cond (is_success r.kind exit) (succeeded_now listed m r) (failed_now m r)))
       late e true = record { few = k.few; running = λ at f. absurd (never_alive m at f) }
       late e false = good e (is_success r.kind exit)
 
@@ -109,22 +173,40 @@ module _ (o : Operation) (m : ℕ) (s : Slot) (exit : Exit) (listed : Bool) (xs 
       go true e =
           let same : same_slot r.slot s ≡ true = ap (λ w. same_slot w s) h.slot ∙ e in
           let last : r.last ≡ LastRun.Alive begun = h.last_is ∙ ap (λ w. last_of w xs) (slot_same t.slot s e) ∙ alive in
-          subst IsTrying (sym (ap (λ b. cond b (ended_same exit listed o.over m r) r) same)) (late last (not (is_in_time o.over m r.end)))
-      go false e = let same : same_slot r.slot s ≡ false = ap (λ w. same_slot w s) h.slot ∙ e in subst IsTrying (sym (ap (λ b. cond b (ended_same exit listed o.over m r) r) same)) k
+          subst IsTrying (sym (ap (λ b. cond b (ended_same exit listed o.over m r) r) same))
+          (late last (not (is_in_time o.over m r.end)))
+      go false e = let same : same_slot r.slot s ≡ false = ap (λ w. same_slot w s) h.slot ∙ e in
+          subst IsTrying (sym (ap (λ b. cond b (ended_same exit listed o.over m r) r) same)) k
 
-  pub level_slot-ended : (r : SlotRecord) (t : Task) → IsLevelSlot o xs r t → IsLevelSlot o (Act.Ended m s exit listed ∷ xs) (ended s exit listed o.over m r) t
-  level_slot-ended r t h = record { is = is-ended r t h.is; acting = h.acting; short = h.short; trying = trying-ended r t h.is h.trying }
+  pub level_slot-ended : (r : SlotRecord) (t : Task) → IsLevelSlot o xs r t →
+      IsLevelSlot o (Act.Ended m s exit listed ∷ xs) (ended s exit listed o.over m r) t
+  level_slot-ended r t h = record {
+    is = is-ended r t h.is;
+    acting = h.acting;
+    short = h.short;
+    trying =
+        trying-ended r t h.is h.trying;
+  }
 
-  pub query_slot-ended : (r : SlotRecord) (t : Task) → IsQuerySlot o xs r t → IsQuerySlot o (Act.Ended m s exit listed ∷ xs) (ended s exit listed o.over m r) t
-  query_slot-ended r t h = record { is = is-ended r t h.is; asking = h.asking; short = h.short; trying = trying-ended r t h.is h.trying }
+  pub query_slot-ended : (r : SlotRecord) (t : Task) → IsQuerySlot o xs r t →
+      IsQuerySlot o (Act.Ended m s exit listed ∷ xs) (ended s exit listed o.over m r) t
+  query_slot-ended r t h = record {
+    is = is-ended r t h.is;
+    asking = h.asking;
+    short = h.short;
+    trying =
+        trying-ended r t h.is h.trying;
+  }
 
-  pub query-ended : (q : Option SlotRecord) (t : Option Task) → IsQuery o xs q t → IsQuery o (Act.Ended m s exit listed ∷ xs) (option_map (ended s exit listed o.over m) q) t
+  pub query-ended : (q : Option SlotRecord) (t : Option Task) → IsQuery o xs q t →
+      IsQuery o (Act.Ended m s exit listed ∷ xs) (option_map (ended s exit listed o.over m) q) t
   query-ended None None h = tt
   query-ended None (Some t) h = h
   query-ended (Some q) None h = h
   query-ended (Some q) (Some t) h = query_slot-ended q t h
 
-  pub level-ended : (r : KeptLevel) (l : Rank) → IsLevel o xs r l → IsLevel o (Act.Ended m s exit listed ∷ xs) (level_ended s exit listed o.over m r) l
+  pub level-ended : (r : KeptLevel) (l : Rank) → IsLevel o xs r l → IsLevel o (Act.Ended m s exit listed ∷ xs)
+      (level_ended s exit listed o.over m r) l
   level-ended r l h = record {
     index = h.index;
     unfit = h.unfit;

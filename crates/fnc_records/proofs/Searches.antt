@@ -19,23 +19,30 @@ pub none-each : {X : Type 0} (p : X → Bool) (xs : List X) → list_any p xs �
 none-each p [] e = tt
 none-each p (x ∷ xs) e = go (p x) e (λ k. none-each p xs k)
   where
-    go : (b : Bool) → (b || list_any p xs) ≡ false → (list_any p xs ≡ false → AllByRecursion (λ x. p x ≡ false) xs) → (b ≡ false) × AllByRecursion (λ x. p x ≡ false) xs
+    go : (b : Bool) → (b || list_any p xs) ≡ false → (list_any p xs ≡ false → AllByRecursion (λ x. p x ≡ false) xs) →
+        (b ≡ false) × AllByRecursion (λ x. p x ≡ false) xs
     go true f ih = cc
     go false f ih = (refl, ih f)
 
 -- both of two things that each element has
-pub each-both : {X : Type 0} (P Q : X → Type 0) (xs : List X) → AllByRecursion P xs → AllByRecursion Q xs → AllByRecursion (λ x. P x × Q x) xs
+pub each-both : {X : Type 0} (P Q : X → Type 0) (xs : List X) → AllByRecursion P xs → AllByRecursion Q xs →
+    AllByRecursion (λ x. P x × Q x) xs
 each-both P Q [] a b = tt
 each-both P Q (x ∷ xs) a b = ((a.0, b.0), each-both P Q xs a.1 b.1)
 
 -- what the elements of both lists have
-pub each-joined : {X : Type 0} (P : X → Type 0) (xs ys : List X) → AllByRecursion P xs → AllByRecursion P ys → AllByRecursion P (xs ++ ys)
+pub each-joined : {X : Type 0} (P : X → Type 0) (xs ys : List X) → AllByRecursion P xs → AllByRecursion P ys →
+    AllByRecursion P (xs ++ ys)
 each-joined P [] ys a b = b
 each-joined P (x ∷ xs) ys a b = (a.0, each-joined P xs ys a.1 b)
 
 -- what each slot of some levels has, the slots of each level have
-pub each-slots : (P : Task → Type 0) (ls : List Rank) → AllByRecursion P (slots_of ls) → AllByRecursion (λ l. AllByRecursion P l.firsts × AllByRecursion P l.ons) ls
+pub each-slots : (P : Task → Type 0) (ls : List Rank) → AllByRecursion P (slots_of ls) →
+    AllByRecursion (λ l. AllByRecursion P l.firsts × AllByRecursion P l.ons) ls
 each-slots P [] a = tt
 each-slots P (l ∷ ls) a =
-    let here = each-left P (l.firsts ++ l.ons) (slots_of ls) a in
-    ((each-left P l.firsts l.ons here, each-right P l.firsts l.ons here), each-slots P ls (each-right P (l.firsts ++ l.ons) (slots_of ls) a))
+    let here = each-left P (l.firsts ++ l.ons) (slots_of ls) a in (
+      (each-left P l.firsts l.ons here, each-right P l.firsts l.ons here),
+      each-slots P ls
+          (each-right P (l.firsts ++ l.ons) (slots_of ls) a),
+    )

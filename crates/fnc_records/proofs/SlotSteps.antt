@@ -1,5 +1,29 @@
 -- A slot's record stays what the acts say when a run of its operation starts or ends.
-use Rattle.std.proofs.Common.{ℕ, List, ◌∷◌, Bool, true, false, ◌≡◌, ◌<◌, ◌+◌, ◌^◌, ◌==◌, refl, ap, ◌∙◌, Option, Some, None, cond, ◌&&◌, ◌||◌, nat_lt, min, arith}
+use Rattle.std.proofs.Common.{
+  ℕ,
+  List,
+  ◌∷◌,
+  Bool,
+  true,
+  false,
+  ◌≡◌,
+  ◌<◌,
+  ◌+◌,
+  ◌^◌,
+  ◌==◌,
+  refl,
+  ap,
+  ◌∙◌,
+  Option,
+  Some,
+  None,
+  cond,
+  ◌&&◌,
+  ◌||◌,
+  nat_lt,
+  min,
+  arith,
+}
 use Rattle.std.proofs.lemmas.Bool.Decides.{nat_tests}
 use Rattle.std.specs.Prelude.{option_map}
 use Rattle.fnc_journal.specs.declared.entry.Slot.{Slot}
@@ -25,11 +49,13 @@ earlier_is None m = refl
 earlier_is (Some k) m = refl
 
 -- the end after a start is that of the first start
-end_started : (at : Option ℕ) (m k : ℕ) → earlier_or (option_map (λ b. b + k) at) (m + k) ≡ option_map (λ b. b + k) (or_here at (Some m))
+end_started : (at : Option ℕ) (m k : ℕ) → earlier_or (option_map (λ b. b + k) at) (m + k) ≡ option_map (λ b. b + k)
+    (or_here at (Some m))
 end_started None m k = refl
 end_started (Some b) m k = refl
 
-started-same : (o : Operation) (r : SlotRecord) (t : Task) (m run : ℕ) (s : Slot) (xs : List Act) → IsSlot o xs r t → runs t.slot xs + 1 < 2 ^ 32 → m + time t < 2 ^ 64 → same_slot t.slot s ≡ true →
+started-same : (o : Operation) (r : SlotRecord) (t : Task) (m run : ℕ) (s : Slot) (xs : List Act) → IsSlot o xs r t →
+    runs t.slot xs + 1 < 2 ^ 32 → m + time t < 2 ^ 64 → same_slot t.slot s ≡ true →
     IsSlot o (Act.Begun m run s ∷ xs) (started_same m r) t
 started-same o r t m run s xs h few short e = record {
   slot = h.slot;
@@ -48,7 +74,8 @@ started-same o r t m run s xs h few short e = record {
   failed_at = h.failed_at;
 }
 
-started-other : (o : Operation) (r : SlotRecord) (t : Task) (m run : ℕ) (s : Slot) (xs : List Act) → IsSlot o xs r t → same_slot t.slot s ≡ false → IsSlot o (Act.Begun m run s ∷ xs) r t
+started-other : (o : Operation) (r : SlotRecord) (t : Task) (m run : ℕ) (s : Slot) (xs : List Act) → IsSlot o xs r t →
+    same_slot t.slot s ≡ false → IsSlot o (Act.Begun m run s ∷ xs) r t
 started-other o r t m run s xs h e = record {
   slot = h.slot;
   reg = h.reg;
@@ -67,13 +94,16 @@ started-other o r t m run s xs h e = record {
 }
 
 -- a start, where the slot has had fewer runs than can be counted
-pub slot-started : (o : Operation) (r : SlotRecord) (t : Task) (m run : ℕ) (s : Slot) (xs : List Act) → IsSlot o xs r t → runs t.slot xs + 1 < 2 ^ 32 → m + time t < 2 ^ 64 →
+pub slot-started : (o : Operation) (r : SlotRecord) (t : Task) (m run : ℕ) (s : Slot) (xs : List Act) →
+    IsSlot o xs r t → runs t.slot xs + 1 < 2 ^ 32 → m + time t < 2 ^ 64 →
     IsSlot o (Act.Begun m run s ∷ xs) (started s m r) t
 slot-started o r t m run s xs h few short = go (same_slot t.slot s) refl
   where
     go : (b : Bool) → same_slot t.slot s ≡ b → IsSlot o (Act.Begun m run s ∷ xs) (started s m r) t
-    go true e = let same : same_slot r.slot s ≡ true = ap (λ k. same_slot k s) h.slot ∙ e in rw same (started-same o r t m run s xs h few short e)
-    go false e = let same : same_slot r.slot s ≡ false = ap (λ k. same_slot k s) h.slot ∙ e in rw same (started-other o r t m run s xs h e)
+    go true e = let same : same_slot r.slot s ≡ true = ap (λ k. same_slot k s) h.slot ∙ e in
+        rw same (started-same o r t m run s xs h few short e)
+    go false e = let same : same_slot r.slot s ≡ false = ap (λ k. same_slot k s) h.slot ∙ e in
+        rw same (started-other o r t m run s xs h e)
 
 below_min : (a m k : ℕ) → (nat_lt m a && nat_lt m k) ≡ nat_lt m (min a k)
 below_min a m k = grind (arith, nat_tests)
@@ -86,7 +116,8 @@ failed_at_is : (b : Bool) (x : Option ℕ) (m : ℕ) → cond b (earlier_or x m)
 failed_at_is true x m = earlier_is x m
 failed_at_is false x m = refl
 
-ended-same : (o : Operation) (r : SlotRecord) (t : Task) (m : ℕ) (s : Slot) (exit : Exit) (listed : Bool) (xs : List Act) → IsSlot o xs r t → failed t o.over xs + 1 < 2 ^ 32 → same_slot t.slot s ≡ true →
+ended-same : (o : Operation) (r : SlotRecord) (t : Task) (m : ℕ) (s : Slot) (exit : Exit) (listed : Bool)
+    (xs : List Act) → IsSlot o xs r t → failed t o.over xs + 1 < 2 ^ 32 → same_slot t.slot s ≡ true →
     IsSlot o (Act.Ended m s exit listed ∷ xs) (ended_same exit listed o.over m r) t
 ended-same o r t m s exit listed xs h few e = go (is_below m (limit t o.over xs)) refl (is_success t.kind exit) refl
   where
@@ -131,7 +162,8 @@ ended-same o r t m s exit listed xs h few e = go (is_below m (limit t o.over xs)
       end_is = h.end_is;
       last_is = rw e refl;
       succeeded_at = rw (e, b, g) h.succeeded_at;
-      failed_at = rw (e, b, g, h.failed_are, h.tries_is, more) (failed_at_is (failed t o.over xs + 1 == tries t) r.failed_at m ∙ ap (λ k. or_here k (cond (failed t o.over xs + 1 == tries t) (Some m) None)) h.failed_at);
+      failed_at = rw (e, b, g, h.failed_are, h.tries_is, more) (failed_at_is (failed t o.over xs + 1 == tries t)
+          r.failed_at m ∙ ap (λ k. or_here k (cond (failed t o.over xs + 1 == tries t) (Some m) None)) h.failed_at);
     })
     go false b g f = rw (time_test, b) (record {
       slot = h.slot;
@@ -150,7 +182,8 @@ ended-same o r t m s exit listed xs h few e = go (is_below m (limit t o.over xs)
       failed_at = rw (e, b) h.failed_at;
     })
 
-ended-other : (o : Operation) (r : SlotRecord) (t : Task) (m : ℕ) (s : Slot) (exit : Exit) (listed : Bool) (xs : List Act) → IsSlot o xs r t → same_slot t.slot s ≡ false →
+ended-other : (o : Operation) (r : SlotRecord) (t : Task) (m : ℕ) (s : Slot) (exit : Exit) (listed : Bool)
+    (xs : List Act) → IsSlot o xs r t → same_slot t.slot s ≡ false →
     IsSlot o (Act.Ended m s exit listed ∷ xs) r t
 ended-other o r t m s exit listed xs h e = record {
   slot = h.slot;
@@ -170,10 +203,14 @@ ended-other o r t m s exit listed xs h e = record {
 }
 
 -- an exit, where fewer tries have failed than can be counted
-pub slot-ended : (o : Operation) (r : SlotRecord) (t : Task) (m : ℕ) (s : Slot) (exit : Exit) (listed : Bool) (xs : List Act) → IsSlot o xs r t → failed t o.over xs + 1 < 2 ^ 32 →
+pub slot-ended : (o : Operation) (r : SlotRecord) (t : Task) (m : ℕ) (s : Slot) (exit : Exit) (listed : Bool)
+    (xs : List Act) → IsSlot o xs r t → failed t o.over xs + 1 < 2 ^ 32 →
     IsSlot o (Act.Ended m s exit listed ∷ xs) (ended s exit listed o.over m r) t
 slot-ended o r t m s exit listed xs h few = go (same_slot t.slot s) refl
   where
-    go : (b : Bool) → same_slot t.slot s ≡ b → IsSlot o (Act.Ended m s exit listed ∷ xs) (ended s exit listed o.over m r) t
-    go true e = let same : same_slot r.slot s ≡ true = ap (λ k. same_slot k s) h.slot ∙ e in rw same (ended-same o r t m s exit listed xs h few e)
-    go false e = let same : same_slot r.slot s ≡ false = ap (λ k. same_slot k s) h.slot ∙ e in rw same (ended-other o r t m s exit listed xs h e)
+    go : (b : Bool) → same_slot t.slot s ≡ b → IsSlot o (Act.Ended m s exit listed ∷ xs)
+        (ended s exit listed o.over m r) t
+    go true e = let same : same_slot r.slot s ≡ true = ap (λ k. same_slot k s) h.slot ∙ e in
+        rw same (ended-same o r t m s exit listed xs h few e)
+    go false e = let same : same_slot r.slot s ≡ false = ap (λ k. same_slot k s) h.slot ∙ e in
+        rw same (ended-other o r t m s exit listed xs h e)

@@ -1,6 +1,7 @@
 -- When the record of a level is what the starts and exits of its operation's runs say.
 use Rattle.std.specs.Prelude.{List, true, false, ◌≡◌, ◌<◌, ◌≤◌, ◌+◌, ◌^◌, length, Option, Some, None, ℕ, ◌==◌}
 use Rattle.std.specs.List.{AllZip}
+use Rattle.fnc_journal.specs.declared.limits.TheConstants.{MOST_TRIES}
 use Rattle.fnc_journal.specs.Device.{delay}
 use Rattle.fnc_journal.specs.Slots.{Task, Operation, Rank, time, tries}
 use Rattle.fnc_journal.specs.Acts.{Act, is_query}
@@ -9,14 +10,16 @@ use Rattle.fnc_records.specs.KeptLevel.{KeptLevel}
 use Rattle.fnc_records.specs.SlotFacts.{IsSlot}
 use Rattle.fnc_records.specs.declared.slot.LastRun.{LastRun}
 
--- the slot has some time, its time and delay are such that no moment gets too great for its record, and few tries are allowed
+-- the slot has some time, its time and delay are such that no moment gets too great for its record, and few tries are
+-- allowed
 pub record IsShort (o : Operation) (t : Task) : Type 0 where
   pub begins : 0 < time t
   pub lasts : time t < 2 ^ 62
   pub waits : delay t.definition t.kind o.target o.coin < 2 ^ 62
-  pub few : tries t ≤ 16
+  pub few : tries t ≤ MOST_TRIES
 
--- no more tries have failed than are allowed; while a run is alive the slot has not succeeded, and not all of them have failed
+-- no more tries have failed than are allowed; while a run is alive the slot has not succeeded, and not all of them have
+-- failed
 pub record IsTrying (r : SlotRecord) : Type 0 where
   pub few : r.failed ≤ r.tries
   pub running : (at : ℕ) → r.last ≡ LastRun.Alive at → (r.succeeded ≡ false) × ((r.failed == r.tries) ≡ false)

@@ -1,5 +1,24 @@
 -- What the record of a level says, and what it becomes by the starts and exits of its operation's runs.
-use Rattle.std.specs.Prelude.{ℕ, List, [], ◌∷◌, Bool, true, ◌+◌, ◌||◌, ◌&&◌, not, nat_le, if◌then◌else◌, map, find, Option, Some, None, option_map}
+use Rattle.std.specs.Prelude.{
+  ℕ,
+  List,
+  [],
+  ◌∷◌,
+  Bool,
+  true,
+  ◌+◌,
+  ◌||◌,
+  ◌&&◌,
+  not,
+  nat_le,
+  if◌then◌else◌,
+  map,
+  find,
+  Option,
+  Some,
+  None,
+  option_map,
+}
 use Rattle.std.specs.List.{list_any, list_all}
 use Rattle.std.specs.Option.{option_or}
 use Rattle.fnc_journal.specs.declared.entry.Exit.{Exit}
@@ -88,7 +107,11 @@ next_rank index l = if is_capable l then capped 8 (index + 1) else index
 
 -- after a start of one of the operation's runs
 abbrev pub level_started : Slot → ℕ → KeptLevel → KeptLevel
-level_started s m l = record l { query = option_map (started s m) l.query; firsts = map (started s m) l.firsts; ons = map (started s m) l.ons }
+level_started s m l = record l {
+  query = option_map (started s m) l.query;
+  firsts = map (started s m) l.firsts;
+  ons = map (started s m) l.ons;
+}
 
 -- after an exit of one
 abbrev pub level_ended : Slot → Exit → Bool → ℕ → ℕ → KeptLevel → KeptLevel

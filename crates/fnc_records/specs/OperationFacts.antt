@@ -1,6 +1,26 @@
 -- When the record of an operation is what the starts and exits of its runs say, and what it is then asked for.
-use Rattle.std.specs.Prelude.{ℕ, List, [], ◌∷◌, true, false, ◌≡◌, ◌≤◌, ◌+◌, ◌-◌, ◌||◌, length, filter, filter_map, Option, Some, None, unwrap_or}
+use Rattle.std.specs.Prelude.{
+  ℕ,
+  List,
+  [],
+  ◌∷◌,
+  true,
+  false,
+  ◌≡◌,
+  ◌≤◌,
+  ◌+◌,
+  ◌-◌,
+  ◌||◌,
+  length,
+  filter,
+  filter_map,
+  Option,
+  Some,
+  None,
+  unwrap_or,
+}
 use Rattle.std.specs.List.{AllZip, AllByRecursion}
+use Rattle.fnc_journal.specs.declared.limits.TheConstants.{MOST_DEVICES}
 use Rattle.fnc_journal.specs.declared.entry.Slot.{Slot}
 use Rattle.fnc_journal.specs.Slots.{Task, Operation, QueriedDevice, queries, slots_of, act_task}
 use Rattle.fnc_journal.specs.Acts.{Act, begun_at_here, moment_of, runs, limit, is_query_phase}
@@ -32,7 +52,8 @@ slot_in (Act.Ended moment slot exit listed) = slot
 abbrev pub AreQueries : List Act → Type 0
 AreQueries xs = AllByRecursion (λ a. is_query_phase (slot_in a).phase ≡ true) xs
 
--- the record of a candidate of which it is not known yet whether it is tried: its query, and its Act slot whatever its level will be
+-- the record of a candidate of which it is not known yet whether it is tried: its query, and its Act slot whatever its
+-- level will be
 pub record IsCandidate (o : Operation) (xs : List Act) (r : KeptLevel) (c : QueriedDevice) : Type 0 where
   pub act : SlotRecord
   pub query : IsQuery o xs r.query c.query
@@ -45,7 +66,7 @@ pub record IsCandidate (o : Operation) (xs : List Act) (r : KeptLevel) (c : Quer
 -- the levels of an operation of which it is not known yet which are tried
 pub record IsUnranked (o : Operation) (xs : List Act) (ls : List KeptLevel) : Type 0 where
   pub unlevelled : o.levelled ≡ false
-  pub few : length o.candidates ≤ 128
+  pub few : length o.candidates ≤ MOST_DEVICES
   pub queried : AreQueries xs
   pub candidates : AllZip (IsCandidate o xs) ls o.candidates
 
@@ -112,7 +133,8 @@ last_begun s (a ∷ earlier) = unwrap_or (begun_at_here s a) (last_begun s earli
 abbrev pub ready_or_begun : Operation → ℕ → List Act → Task → ℕ
 ready_or_begun o m xs t = unwrap_or (ready o m xs t) (last_begun t.slot xs)
 
--- what is said of the slot at which an operation stands: which of its tries is next, and when that is ready or the run that is alive was started
+-- what is said of the slot at which an operation stands: which of its tries is next, and when that is ready or the run
+-- that is alive was started
 pub record IsStandingAt (o : Operation) (m : ℕ) (xs : List Act) (s : Standing) (t : Task) : Type 0 where
   pub slot : s.slot ≡ t.slot
   pub reg : s.reg.0 ≡ t.reg

@@ -1,5 +1,34 @@
 -- What the record of an operation says.
-use Rattle.std.specs.Prelude.{ℕ, List, [], ◌∷◌, ◌++◌, ◌-◌, Bool, ◌&&◌, not, nat_le, if◌then◌else◌, find, Option, Some, None, option_map, option_and_then, true, map, bytes_eq, ◌==◌, unwrap_or, false, length, ◌+◌, ◌*◌}
+use Rattle.std.specs.Prelude.{
+  ℕ,
+  List,
+  [],
+  ◌∷◌,
+  ◌++◌,
+  ◌-◌,
+  Bool,
+  ◌&&◌,
+  not,
+  nat_le,
+  if◌then◌else◌,
+  find,
+  Option,
+  Some,
+  None,
+  option_map,
+  option_and_then,
+  true,
+  map,
+  bytes_eq,
+  ◌==◌,
+  unwrap_or,
+  false,
+  length,
+  ◌+◌,
+  ◌*◌,
+  ◌||◌,
+  is_none,
+}
 use Rattle.std.specs.List.{list_any, list_all}
 use Rattle.std.specs.Option.{option_or}
 use Rattle.fnc_journal.specs.declared.entry.Answer.{Answer}
@@ -13,7 +42,19 @@ use Rattle.fnc_records.specs.declared.slot.SlotRecord.{SlotRecord}
 use Rattle.fnc_records.specs.KeptLevel.{KeptLevel}
 use Rattle.fnc_records.specs.KeptOperation.{KeptOperation}
 use Rattle.fnc_records.specs.SlotRecords.{attempt, ready, limit, come_by}
-use Rattle.fnc_records.specs.LevelRecords.{is_queried, open_query, is_lost, is_done, standing_in, latest_query, latest_tried, ranked_if_capable, next_rank, level_started, level_ended}
+use Rattle.fnc_records.specs.LevelRecords.{
+  is_queried,
+  open_query,
+  is_lost,
+  is_done,
+  standing_in,
+  latest_query,
+  latest_tried,
+  ranked_if_capable,
+  next_rank,
+  level_started,
+  level_ended,
+}
 use Rattle.fnc_journal.specs.Missing.{first_of, has_any}
 use Rattle.fnc_journal.specs.declared.entry.Kind.{Kind}
 use Rattle.fnc_journal.specs.Same.{same_kind}
@@ -48,7 +89,14 @@ since m o = latest_levels o.begin m (latest_queries o.begin m o.begin o.levels) 
 
 -- what is told of the slot at which it stands
 abbrev pub standing_at : ℕ → ℕ → SlotRecord → Standing
-standing_at since over s = record { slot = s.slot; reg = s.reg; kind = s.kind; attempt = attempt s; ready = ready since s; limit = limit over s }
+standing_at since over s = record {
+  slot = s.slot;
+  reg = s.reg;
+  kind = s.kind;
+  attempt = attempt s;
+  ready = ready since s;
+  limit = limit over s;
+}
 
 -- where the operation stands
 abbrev pub standing : ℕ → KeptOperation → Option Standing
@@ -116,6 +164,11 @@ ranked_if_queried m o =
 abbrev pub at_moment : ℕ → KeptOperation → KeptOperation
 at_moment m o = ranked_if_queried m (record o { moment = m })
 
+-- the record at a later moment, where it is that of the operation of a number, or where its standing slot does not come
+-- to its action's end by then
+abbrev pub at_moment_unless_ending : ℕ → ℕ → KeptOperation → KeptOperation
+at_moment_unless_ending req m o = if (o.req == req) || is_none (expired_at m o) then at_moment m o else o
+
 -- after a start of one of the operation's runs
 abbrev pub operation_started : Slot → ℕ → KeptOperation → KeptOperation
 operation_started s m o = record o { levels = map (level_started s m) o.levels; untried = o.untried - 1 }
@@ -134,7 +187,8 @@ only req f o = if o.req == req then f o else o
 
 -- after an exit of one
 abbrev pub operation_ended : Slot → Exit → Bool → ℕ → KeptOperation → KeptOperation
-operation_ended s exit listed m o = ranked_if_queried m (record o { levels = map (level_ended s exit listed o.over m) o.levels })
+operation_ended s exit listed m o =
+    ranked_if_queried m (record o { levels = map (level_ended s exit listed o.over m) o.levels })
 
 -- after an operator's word that a target is down
 abbrev pub operation_confirmed : List ℕ → KeptOperation → KeptOperation

@@ -1,6 +1,28 @@
 -- What the record of a slot says, and what it becomes by the starts and exits of its operation's runs.
 -- Numbers are cut where they would not fit; of an operation that stands in a lawful journal none is.
-use Rattle.std.specs.Prelude.{ℕ, Bool, true, false, ◌==◌, ◌+◌, ◌-◌, ◌^◌, min, max, ◌||◌, ◌&&◌, not, nat_lt, if◌then◌else◌, Option, Some, None, option_map, unwrap_or, nat_le}
+use Rattle.std.specs.Prelude.{
+  ℕ,
+  Bool,
+  true,
+  false,
+  ◌==◌,
+  ◌+◌,
+  ◌-◌,
+  ◌^◌,
+  min,
+  max,
+  ◌||◌,
+  ◌&&◌,
+  not,
+  nat_lt,
+  if◌then◌else◌,
+  Option,
+  Some,
+  None,
+  option_map,
+  unwrap_or,
+  nat_le,
+}
 use Rattle.fnc_journal.specs.declared.entry.Exit.{Exit}
 use Rattle.fnc_journal.specs.declared.entry.Slot.{Slot}
 use Rattle.fnc_journal.specs.Exits.{is_success}
@@ -62,7 +84,11 @@ ready since r = ready_by since r.delay r.last
 
 -- after a start of one of its own runs
 abbrev pub started_same : ℕ → SlotRecord → SlotRecord
-started_same m r = record r { runs = capped 32 (r.runs + 1); last = LastRun.Alive m; end = earlier_or r.end (capped 64 (m + r.time)) }
+started_same m r = record r {
+  runs = capped 32 (r.runs + 1);
+  last = LastRun.Alive m;
+  end = earlier_or r.end (capped 64 (m + r.time));
+}
 
 -- after a start of one of the operation's runs
 abbrev pub started : Slot → ℕ → SlotRecord → SlotRecord
@@ -75,8 +101,12 @@ is_in_time over m (Some end) = nat_lt m over && nat_lt m end
 
 -- after a success in time
 abbrev pub succeeded_now : Bool → ℕ → SlotRecord → SlotRecord
-succeeded_now listed m r =
-    record r { succeeded = true; listed = listed || r.listed; last = LastRun.EndedAt m; succeeded_at = earlier_or r.succeeded_at m }
+succeeded_now listed m r = record r {
+  succeeded = true;
+  listed = listed || r.listed;
+  last = LastRun.EndedAt m;
+  succeeded_at = earlier_or r.succeeded_at m;
+}
 
 -- after a failure in time
 abbrev pub failed_now : ℕ → SlotRecord → SlotRecord

@@ -28,12 +28,14 @@ impl Model for LevelRecord {
 
     ghost Value = { KeptLevel };
 
-    ghost view = {
-        λ l. record {
-            query = l.query; tried = l.tried; index = l.index; unfit = l.unfit;
-            firsts = l.firsts.items; ons = l.ons.items
-        }
-    };
+    ghost view = { λ l. record {
+      query = l.query;
+      tried = l.tried;
+      index = l.index;
+      unfit = l.unfit;
+      firsts = l.firsts.items;
+      ons = l.ons.items;
+    } };
 }
 
 fn all_succeeded(slots: &[SlotRecord]) -> bool

@@ -52,13 +52,19 @@ impl Model for OperationRecord {
 
     ghost Value = { KeptOperation };
 
-    ghost view = {
-        λ o. record {
-            req = o.req.0; kind = o.kind; target = o.target; begin = o.begin; over = o.over; moment = o.moment;
-            confirmed = o.confirmed; ranked = o.ranked; untried = o.untried;
-            levels = o.levels.items; members = o.members.items
-        }
-    };
+    ghost view = { λ o. record {
+      req = o.req.0;
+      kind = o.kind;
+      target = o.target;
+      begin = o.begin;
+      over = o.over;
+      moment = o.moment;
+      confirmed = o.confirmed;
+      ranked = o.ranked;
+      untried = o.untried;
+      levels = o.levels.items;
+      members = o.members.items;
+    } };
 }
 
 fn is_on(phase: Phase) -> bool
@@ -324,11 +330,12 @@ impl OperationRecord {
         self.rank_if_queried(moment);
     }
 
-    /// The same, where this is the operation.
-    pub fn see_moment_of(&mut self, operation: Req, moment: u64)
-        ensures { self.new ≡ OperationRecords.only operation.0 (OperationRecords.at_moment moment) self.old }
+    /// A later moment has come. The record speaks at it where it is that of this operation, or where its standing
+    /// slot does not come to its action's end by then; else it speaks at the moment at which it spoke.
+    pub fn see_moment_unless_ending(&mut self, operation: Req, moment: u64)
+        ensures { self.new ≡ OperationRecords.at_moment_unless_ending operation.0 moment self.old }
     {
-        if self.req.0 == operation.0 {
+        if self.req.0 == operation.0 || self.expired_at(moment).is_none() {
             self.see_moment(moment);
         }
     }
@@ -379,7 +386,8 @@ impl OperationRecord {
 
     /// The same, where this is the operation.
     pub fn see_exit_of(&mut self, operation: Req, slot: Slot, exit: Exit, listed: bool, moment: u64)
-        ensures { self.new ≡ OperationRecords.only operation.0 (OperationRecords.operation_ended slot exit listed moment) self.old }
+        ensures { self.new ≡ OperationRecords.only operation.0
+            (OperationRecords.operation_ended slot exit listed moment) self.old }
     {
         if self.req.0 == operation.0 {
             self.see_exit(slot, exit, listed, moment);

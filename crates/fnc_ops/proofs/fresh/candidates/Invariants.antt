@@ -7,5 +7,7 @@ use Rattle.fnc_ops.proofs.fresh.candidates.Given as goal
 abbrev pub invariant-loop-candidate : goal.invariant-loop-candidate
 invariant-loop-candidate l =
     (l.place ≡ l.candidate-index)
-    × (l.levels.items ++ map (fresh_candidate l.operation.kind l.operation.target l.operation.coin) (queried_from l.place l.journal.history (drop l.candidate-index l.candidates))
-    ≡ map (fresh_candidate l.operation.kind l.operation.target l.operation.coin) (queried_from 0 l.journal.history l.candidates))
+    × (l.levels.items ++ map (fresh_candidate l.operation.kind l.operation.target l.operation.coin)
+    (queried_from l.place l.journal.history (drop l.candidate-index l.candidates))
+    ≡ map (fresh_candidate l.operation.kind l.operation.target l.operation.coin)
+    (queried_from 0 l.journal.history l.candidates))

@@ -10,20 +10,29 @@ use Rattle.fnc_ops.proofs.fresh.fresh_level.Goals as goal
 
 pub returns-then-is_unfit : goal.returns-then-is_unfit
 returns-then-is_unfit c =
-    let unfit : list_any is_none (map (place_of c.args.operation.now.kind c.args.journal.now.history) c.args.level.now.devices) ≡ true =
+    let unfit : list_any is_none (map (place_of c.args.operation.now.kind c.args.journal.now.history)
+    c.args.level.now.devices) ≡ true =
     any-map is_none (place_of c.args.operation.now.kind c.args.journal.now.history) c.args.level.now.devices
-    ∙ ap (list_any (λ p. is_none (place_of c.args.operation.now.kind c.args.journal.now.history p))) (sym c.as_slice-places.ensures)
+    ∙ ap (list_any (λ p. is_none (place_of c.args.operation.now.kind c.args.journal.now.history p)))
+    (sym c.as_slice-places.ensures)
     ∙ sym c.if-is_unfit.ensures in
     c.unfit_level.ensures
-    ∙ level-unfit c.args.operation.now.target c.args.operation.now.coin c.args.operation.now.kind c.args.level.now.index (map (place_of c.args.operation.now.kind c.args.journal.now.history) c.args.level.now.devices) unfit
+    ∙ level-unfit c.args.operation.now.target c.args.operation.now.coin c.args.operation.now.kind
+    c.args.level.now.index (map (place_of c.args.operation.now.kind c.args.journal.now.history)
+    c.args.level.now.devices) unfit
 
 pub returns-else-is_unfit : goal.returns-else-is_unfit
 returns-else-is_unfit c =
-    let fit : list_any is_none (map (place_of c.args.operation.now.kind c.args.journal.now.history) c.args.level.now.devices) ≡ false =
+    let fit : list_any is_none (map (place_of c.args.operation.now.kind c.args.journal.now.history)
+    c.args.level.now.devices) ≡ false =
     any-map is_none (place_of c.args.operation.now.kind c.args.journal.now.history) c.args.level.now.devices
-    ∙ ap (list_any (λ p. is_none (place_of c.args.operation.now.kind c.args.journal.now.history p))) (sym c.as_slice-places.ensures)
+    ∙ ap (list_any (λ p. is_none (place_of c.args.operation.now.kind c.args.journal.now.history p)))
+    (sym c.as_slice-places.ensures)
     ∙ sym c.if-is_unfit.ensures in
     subst (λ (k : KeptLevel). IfOk c.fit_level.result (λ l. l ≡ k))
-    (ap (λ ps. fit_level c.args.operation.now.target c.args.operation.now.coin c.args.operation.now.kind c.args.level.now.index (map (place_of c.args.operation.now.kind c.args.journal.now.history) ps)) c.as_slice-places.ensures
-    ∙ level-fit c.args.operation.now.target c.args.operation.now.coin c.args.operation.now.kind c.args.level.now.index (map (place_of c.args.operation.now.kind c.args.journal.now.history) c.args.level.now.devices) fit)
+    (ap (λ ps. fit_level c.args.operation.now.target c.args.operation.now.coin c.args.operation.now.kind
+    c.args.level.now.index (map (place_of c.args.operation.now.kind c.args.journal.now.history) ps))
+    c.as_slice-places.ensures
+    ∙ level-fit c.args.operation.now.target c.args.operation.now.coin c.args.operation.now.kind c.args.level.now.index
+    (map (place_of c.args.operation.now.kind c.args.journal.now.history) c.args.level.now.devices) fit)
     c.fit_level.ensures

@@ -10,10 +10,15 @@ pub loop-reg-preserved : goal.loop-reg-preserved
 loop-reg-preserved c =
     let within : c.loop-reg.reg-index < length c.args.places.now = omega arith in (
       ap (λ n. n + 1) c.loop-reg.invariant.0,
-      ap (λ ys. ys ++ map (fresh_slot c.args.operation.now.target c.args.operation.now.coin) (ons_at c.args.level (c.loop-reg.place + 1) (map (place_of c.args.operation.now.kind c.args.journal.now.history) (drop (c.loop-reg.reg-index + 1) c.args.places.now))))
+      ap (λ ys. ys ++ map (fresh_slot c.args.operation.now.target c.args.operation.now.coin)
+          (ons_at c.args.level (c.loop-reg.place + 1)
+          (map (place_of c.args.operation.now.kind c.args.journal.now.history)
+          (drop (c.loop-reg.reg-index + 1) c.args.places.now))))
           (c.in_ok-push_slot.ensures ∙ ap (append_some c.loop-reg.slots.items) c.on_at-slot.ensures)
           ∙ append_more (fresh_slot c.args.operation.now.target c.args.operation.now.coin) c.loop-reg.slots.items _ _
-          ∙ ap (λ xs. c.loop-reg.slots.items ++ map (fresh_slot c.args.operation.now.target c.args.operation.now.coin) (ons_at c.args.level c.loop-reg.place (map (place_of c.args.operation.now.kind c.args.journal.now.history) xs)))
+          ∙ ap (λ xs. c.loop-reg.slots.items ++ map (fresh_slot c.args.operation.now.target c.args.operation.now.coin)
+          (ons_at c.args.level c.loop-reg.place
+          (map (place_of c.args.operation.now.kind c.args.journal.now.history) xs)))
           (drop-next c.args.places.now c.loop-reg.reg-index _ within)
           ∙ c.loop-reg.invariant.1,
     )

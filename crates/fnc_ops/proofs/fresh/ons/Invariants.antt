@@ -7,5 +7,7 @@ use Rattle.fnc_ops.proofs.fresh.ons.Given as goal
 abbrev pub invariant-loop-reg : goal.invariant-loop-reg
 invariant-loop-reg l =
     (l.place ≡ l.reg-index)
-    × (l.slots.items ++ map (fresh_slot l.operation.target l.operation.coin) (ons_at l.level l.place (map (place_of l.operation.kind l.journal.history) (drop l.reg-index l.places)))
-    ≡ map (fresh_slot l.operation.target l.operation.coin) (ons_at l.level 0 (map (place_of l.operation.kind l.journal.history) l.places)))
+    × (l.slots.items ++ map (fresh_slot l.operation.target l.operation.coin)
+    (ons_at l.level l.place (map (place_of l.operation.kind l.journal.history) (drop l.reg-index l.places)))
+    ≡ map (fresh_slot l.operation.target l.operation.coin)
+    (ons_at l.level 0 (map (place_of l.operation.kind l.journal.history) l.places)))

@@ -4,4 +4,5 @@ use Rattle.fnc_ops.proofs.planned.levels_tries.Given as goal
 
 -- the tries so far, with those of what is left
 abbrev pub invariant-loop-level : goal.invariant-loop-level
-invariant-loop-level l = sum_from l.tries (map (level_tries l.kind l.journal.history) (drop l.level-index l.levels)) ≡ sum_from 0 (map (level_tries l.kind l.journal.history) l.levels)
+invariant-loop-level l = sum_from l.tries (map (level_tries l.kind l.journal.history) (drop l.level-index l.levels)) ≡
+    sum_from 0 (map (level_tries l.kind l.journal.history) l.levels)

@@ -4,4 +4,5 @@ use Rattle.fnc_ops.proofs.records.first_expiry.Given as goal
 
 -- the sooner of what was found and what is still to come is the first of all
 abbrev pub invariant-loop-record : goal.invariant-loop-record
-invariant-loop-record l = sooner l.first (first_expiry l.moment (drop l.record-index l.records)) ≡ first_expiry l.moment l.records
+invariant-loop-record l = sooner l.first (first_expiry l.moment (drop l.record-index l.records)) ≡ first_expiry
+    l.moment l.records

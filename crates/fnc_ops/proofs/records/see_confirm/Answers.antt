@@ -9,5 +9,6 @@ pub loop-record-preserved : goal.loop-record-preserved
 loop-record-preserved c =
     let in_records : c.loop-record.record-index < length c.loop-record.records = omega arith in
     ap (set c.loop-record.records c.loop-record.record-index) c.see_confirm.ensures
-    ∙ map_over_more (operation_confirmed c.args.target.now) c.args.records.now c.loop-record.records c.loop-record.record-index _ (omega arith) c.loop-record.invariant
+    ∙ map_over_more (operation_confirmed c.args.target.now) c.args.records.now c.loop-record.records
+    c.loop-record.record-index _ (omega arith) c.loop-record.invariant
     (get_or_default c.loop-record.records c.loop-record.record-index _ _ in_records)

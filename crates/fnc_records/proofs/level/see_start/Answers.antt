@@ -9,5 +9,6 @@ pub loop-s-preserved : goal.loop-s-preserved
 loop-s-preserved c =
     let in_slots : c.loop-s.s-index < length c.loop-s.slots = omega arith in
     ap (set c.loop-s.slots c.loop-s.s-index) c.see_start.ensures
-    ∙ map_over_more (started c.args.slot c.args.moment) c.args.slots.now c.loop-s.slots c.loop-s.s-index _ (omega arith) c.loop-s.invariant
+    ∙ map_over_more (started c.args.slot c.args.moment) c.args.slots.now c.loop-s.slots c.loop-s.s-index _
+    (omega arith) c.loop-s.invariant
     (get_or_default c.loop-s.slots c.loop-s.s-index _ _ in_slots)

@@ -4,4 +4,5 @@ use Rattle.fnc_records.proofs.operation.latest_levels.Given as goal
 
 -- what was found so far, with the levels that are left
 abbrev pub invariant-loop-level : goal.invariant-loop-level
-invariant-loop-level l = latest_levels l.begin l.moment l.latest (drop l.level-index l.levels) ≡ latest_levels l.begin l.moment l.at l.levels
+invariant-loop-level l = latest_levels l.begin l.moment l.latest (drop l.level-index l.levels) ≡ latest_levels l.begin
+    l.moment l.at l.levels

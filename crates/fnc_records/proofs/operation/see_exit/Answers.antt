@@ -9,5 +9,6 @@ pub loop-level-preserved : goal.loop-level-preserved
 loop-level-preserved c =
     let in_levels : c.loop-level.level-index < length c.loop-level.levels = omega arith in
     ap (set c.loop-level.levels c.loop-level.level-index) c.see_exit.ensures
-    ∙ map_over_more (level_ended c.args.slot c.args.exit c.args.listed c.args.over c.args.moment) c.args.levels.now c.loop-level.levels c.loop-level.level-index _ (omega arith) c.loop-level.invariant
+    ∙ map_over_more (level_ended c.args.slot c.args.exit c.args.listed c.args.over c.args.moment) c.args.levels.now
+    c.loop-level.levels c.loop-level.level-index _ (omega arith) c.loop-level.invariant
     (get_or_default c.loop-level.levels c.loop-level.level-index _ _ in_levels)

@@ -4,4 +4,5 @@ use Rattle.fnc_records.proofs.operation.see_exit.Given as goal
 
 -- the levels so far have seen it
 abbrev pub invariant-loop-level : goal.invariant-loop-level
-invariant-loop-level l = l.levels ≡ map (level_ended l.slot l.exit l.listed l.over l.moment) (take l.level-index l.initial.levels) ++ drop l.level-index l.initial.levels
+invariant-loop-level l = l.levels ≡ map (level_ended l.slot l.exit l.listed l.over l.moment)
+    (take l.level-index l.initial.levels) ++ drop l.level-index l.initial.levels

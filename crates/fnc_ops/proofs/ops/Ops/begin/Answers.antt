@@ -11,13 +11,27 @@ use Rattle.fnc_ops.proofs.ops.Ops.begin.Goals as goal
 pub returns-clause-ok : goal.returns-clause-ok
 returns-clause-ok c client =
     on_ok_weaker c.kept_begun.result
-    (λ e. subst (λ (v : Kept). StandsFor v (ask_entry c.args.operation.moment (begun_request c.args.operation client c.args.plan.scope) ∷ c.args.journal.now.history))
+    (λ e. subst (λ (v : Kept). StandsFor v (ask_entry c.args.operation.moment
+    (begun_request c.args.operation client c.args.plan.scope) ∷ c.args.journal.now.history))
     (sym e)
-    (stands-begun c.args.operation c.args.plan c.args.journal.now.history client c.requires.lawful c.requires.number c.requires.planned c.requires.bounded c.args.self.now c.requires.stands c.requires.few_candidates c.requires.few_levels c.requires.few_devices))
-    (subst (λ (k : KeptOperation). OnOk c.kept_begun.result (c.kept_begun.new.self ≡ record { operations = c.args.self.now.operations ++ k ∷ []; alive = c.args.self.now.alive })) c.in_ok-record.ensures c.kept_begun.ensures.ok)
+    (stands-begun c.args.operation c.args.plan c.args.journal.now.history client c.requires.lawful c.requires.number
+    c.requires.planned c.requires.bounded c.args.self.now c.requires.stands c.requires.few_candidates
+    c.requires.few_levels c.requires.few_devices))
+    (subst (λ (k : KeptOperation). OnOk c.kept_begun.result (c.kept_begun.new.self ≡ record {
+      operations =
+          c.args.self.now.operations ++ k ∷ [];
+      alive = c.args.self.now.alive;
+    })) c.in_ok-record.ensures
+    c.kept_begun.ensures.ok)
 
 pub returns-clause-others : goal.returns-clause-others
 returns-clause-others c =
-    others-wait-ever c.args.operation c.args.plan c.args.journal.now.history c.args.self.now c.kept_begun.new.self c.kept_begun.result
-    (subst (λ (k : KeptOperation). OnOk c.kept_begun.result (c.kept_begun.new.self ≡ record { operations = c.args.self.now.operations ++ k ∷ []; alive = c.args.self.now.alive })) c.in_ok-record.ensures c.kept_begun.ensures.ok)
+    others-wait-ever c.args.operation c.args.plan c.args.journal.now.history c.args.self.now c.kept_begun.new.self
+    c.kept_begun.result
+    (subst (λ (k : KeptOperation). OnOk c.kept_begun.result (c.kept_begun.new.self ≡ record {
+      operations =
+          c.args.self.now.operations ++ k ∷ [];
+      alive = c.args.self.now.alive;
+    })) c.in_ok-record.ensures
+    c.kept_begun.ensures.ok)
     c.kept_begun.ensures.err

@@ -11,7 +11,11 @@ use Rattle.fnc_ops.proofs.ops.Ops.confirm.Goals as goal
 pub returns-clause-stands : goal.returns-clause-stands
 returns-clause-stands c moment word own =
     subst (λ (v : Kept). StandsFor v (confirm_entry moment word ∷ c.args.journal.now.history))
-    (ap (λ (t : List ℕ). record { operations = map (operation_confirmed t) c.args.self.now.operations; alive = c.args.self.now.alive }) own
+    (ap (λ (t : List ℕ). record {
+      operations = map (operation_confirmed t) c.args.self.now.operations;
+      alive =
+          c.args.self.now.alive;
+    }) own
     ∙ sym c.kept_confirmed.ensures)
     (record {
       each = stands-confirmed c.args.journal.now.history moment word c.args.self.now.operations c.requires.stands.each;
@@ -21,7 +25,9 @@ returns-clause-stands c moment word own =
 pub returns-clause-at : goal.returns-clause-at
 returns-clause-at c m at =
     subst (λ (v : Kept). AreAt m v.operations) (sym c.kept_confirmed.ensures)
-    (at-map m (operation_confirmed c.args.target.now) (moment-confirmed c.args.target.now) c.args.self.now.operations at)
+    (at-map m (operation_confirmed c.args.target.now) (moment-confirmed c.args.target.now) c.args.self.now.operations
+    at)
 
 pub returns-clause-waits : goal.returns-clause-waits
-returns-clause-waits c n = ap (λ (v : Kept). waiting n v.operations) c.kept_confirmed.ensures ∙ waiting-confirmed c.args.target.now n c.args.self.now.operations
+returns-clause-waits c n = ap (λ (v : Kept). waiting n v.operations) c.kept_confirmed.ensures
+    ∙ waiting-confirmed c.args.target.now n c.args.self.now.operations

@@ -5,5 +5,6 @@ use Rattle.fnc_ops.proofs.StandsTries.{standing_found}
 use Rattle.fnc_ops.proofs.ops.Ops.standing.Goals as goal
 
 pub returns : goal.returns
-returns c h moment lawful settled at stands =
-    subst (IsStandingOf h moment c.args.operation.0) (sym c.kept_standing.ensures) (standing_found h moment lawful c.args.operation.0 c.args.self.now.operations settled at stands.each)
+returns c h moment lawful stands speaks =
+    subst (IsStandingOf h moment c.args.operation.0) (sym c.kept_standing.ensures)
+    (standing_found h moment lawful c.args.operation.0 c.args.self.now.operations speaks stands.each)

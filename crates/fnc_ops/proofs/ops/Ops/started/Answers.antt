@@ -1,5 +1,6 @@
 -- The records stand for the journal with the start.
 use Rattle.std.proofs.Common.{◌≡◌, ◌∷◌, ◌∙◌, ◌≤◌, ◌<◌, ◌+◌, ◌^◌, ℕ, map, refl, sym, ap, subst, arith, length}
+use Rattle.fnc_journal.specs.declared.limits.TheConstants.{GREATEST_MOMENT}
 use Rattle.fnc_journal.specs.declared.event.Start.{Start}
 use Rattle.fnc_journal.specs.declared.entry.Slot.{Slot}
 use Rattle.fnc_journal.specs.History.{History}
@@ -23,15 +24,17 @@ same-start : (y : Try) (start : Start) → start.slot ≡ y.task.slot → of_try
 same-start y start own = ap (λ (s : Slot). record start { slot = s }) (sym own)
 
 -- the journal with the start as the try has it is the journal with the start
-same-history : (m : ℕ) (h : History) (y : Try) (start : Start) → start.slot ≡ y.task.slot → start_entry m (of_try y start) ∷ h ≡ start_entry m start ∷ h
+same-history : (m : ℕ) (h : History) (y : Try) (start : Start) → start.slot ≡ y.task.slot →
+    start_entry m (of_try y start) ∷ h ≡ start_entry m start ∷ h
 same-history m h y start own = ap (λ (s : Start). start_entry m s ∷ h) (same-start y start own)
 
 -- the records of the operations that are open
-each-started : (c : goal.After-kept_started) (y : Try) → AwaitsTry c.args.journal.now.history c.args.moment c.args.start.now.req.0 y →
+each-started : (c : goal.After-kept_started) (y : Try) → AwaitsTry c.args.journal.now.history c.args.moment
+    c.args.start.now.req.0 y →
     StandEach (map (only c.args.start.now.req.0 (start_standing c.args.moment)) c.args.self.now.operations)
     (start_entry c.args.moment (of_try y c.args.start.now) ∷ c.args.journal.now.history)
 each-started c y awaits =
-    let early : c.args.moment ≤ 10 ^ 15 = c.requires.early in
+    let early : c.args.moment ≤ GREATEST_MOMENT = c.requires.early in
     stands-started c.args.journal.now.history c.args.moment c.args.start.now y c.requires.few (omega (arith, early))
     c.args.self.now.operations c.requires.stands.each c.requires.at c.requires.settled
     (each-awaits c.args.journal.now.history c.args.moment c.args.start.now.req.0 y awaits)
@@ -43,7 +46,8 @@ returns-clause-stands c y awaits own =
     let most : length (alive_runs h) ≤ length h = alive-few h in
     subst (λ (v : Kept). StandsFor v (start_entry c.args.moment c.args.start.now ∷ h)) (sym c.kept_started.ensures)
     (record {
-      each = subst (StandEach (map (only c.args.start.now.req.0 (start_standing c.args.moment)) c.args.self.now.operations))
+      each = subst (StandEach (map (only c.args.start.now.req.0 (start_standing c.args.moment))
+          c.args.self.now.operations))
           (same-history c.args.moment h y c.args.start.now own) (each-started c y awaits);
       alive = ap (λ n. capped 32 (n + 1)) c.requires.stands.alive
           ∙ capped_32 (length (alive_runs h) + 1) (omega (arith, few, most))
@@ -69,7 +73,8 @@ returns-clause-others c n other =
 pub returns-clause-waits : goal.returns-clause-waits
 returns-clause-waits c y awaits =
     ap (λ (v : Kept). waiting c.args.start.now.req.0 v.operations) c.kept_started.ensures
-    ∙ waits-started c.args.journal.now.history c.args.moment (of_try y c.args.start.now) y refl awaits c.requires.settled
+    ∙ waits-started c.args.journal.now.history c.args.moment (of_try y c.args.start.now) y refl awaits
+    c.requires.settled
     c.args.self.now.operations c.requires.stands.each c.requires.at (each-started c y awaits)
 
 pub returns-clause-owes : goal.returns-clause-owes

@@ -8,5 +8,6 @@ use Rattle.fnc_ops.proofs.ops.Ops.waiting.Goals as goal
 
 pub returns-clause-tries : goal.returns-clause-tries
 returns-clause-tries c h moment lawful settled at stands =
-    subst (λ s. IsTryOf h moment s (find (λ o. o.req == c.args.operation.0) (open_operations h))) (sym c.kept_waiting.ensures)
+    subst (λ s. IsTryOf h moment s (find (λ o. o.req == c.args.operation.0) (open_operations h)))
+    (sym c.kept_waiting.ensures)
     (waiting_found h moment lawful c.args.operation.0 c.args.self.now.operations settled at stands.each)

@@ -1,7 +1,0 @@
-use Rattle.std.proofs.Common.{◌≡◌, ◌++◌, map, take, drop}
-use Rattle.fnc_records.specs.OperationRecords.{only, at_moment}
-use Rattle.fnc_ops.proofs.records.see_moment_of.Given as goal
-
--- the operations so far have seen it
-abbrev pub invariant-loop-record : goal.invariant-loop-record
-invariant-loop-record l = l.records ≡ map (only l.operation.0 (at_moment l.moment)) (take l.record-index l.initial.records) ++ drop l.record-index l.initial.records
