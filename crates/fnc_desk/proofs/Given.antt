@@ -14,11 +14,11 @@ use Rattle.fnc_journal.proofs.Lawfulness.{and-left, and-right}
 use Rattle.fnc_outside.specs.Events.{Happening}
 use Rattle.fnc_core.specs.Cored.{Advances, Cored, Enters}
 use Rattle.fnc_desk.specs.Entered.{InputLacksRoom, LacksRoom, TakesInput, TakesLine, next_line}
-use Rattle.fnc_desk.specs.FirstSession.{IsFirst, IsFirstEntry}
+use Rattle.fnc_desk.specs.PlainJournal.{IsPlainJournal, IsPlainEntry}
 use Rattle.fnc_desk.specs.Inputs.{Gives, IsInput, device_input, has_operation, input_of, inputs, refused, request_input}
 use Rattle.fnc_desk.specs.Said.{Said, said}
 use Rattle.fnc_desk.proofs.Entering.{same-moment}
-use Rattle.fnc_desk.proofs.Replied.{asks-replied, devices-replied, first-replied, inputs-replied, is_alive-replied, none-open}
+use Rattle.fnc_desk.proofs.Replied.{asks-replied, devices-replied, plain-replied, inputs-replied, is_alive-replied, none-open}
 
 untrue : (b : Bool) → not b ≡ true → b ≡ false
 untrue true e = cc
@@ -81,49 +81,49 @@ lacks-line s n bytes old new (Ok u) is number t = tt
 lacks-line s n bytes old new (Err full) is number t = lacks-said s n bytes old new full is number t
 
 -- what a line calls for stands in the journal of a first session
-first-input : (s : Said) (h : History) (last n : ℕ) → IsFirstEntry (input_of s h last n).event h
-first-input (Said.Device at name) h last n = go (nat_le last at && (devices h == 0)) refl
+plain-input : (s : Said) (h : History) (last n : ℕ) → IsPlainEntry (input_of s h last n).event h
+plain-input (Said.Device at name) h last n = go (nat_le last at && (devices h == 0)) refl
   where
-    go : (b : Bool) → (nat_le last at && (devices h == 0)) ≡ b → IsFirstEntry (cond b (device_input at name) (refused last n Cause.UnknownVerb)).event h
+    go : (b : Bool) → (nat_le last at && (devices h == 0)) ≡ b → IsPlainEntry (cond b (device_input at name) (refused last n Cause.UnknownVerb)).event h
     go true k = record { first = eqb-true (devices h) 0 (and-right _ _ k); number = refl; is_plain = refl }
     go false k = tt
-first-input (Said.Ask at client target) h last n = go (nat_le last at && (devices h == 1) && not (has_operation target h)) refl
+plain-input (Said.Ask at client target) h last n = go (nat_le last at && (devices h == 1) && not (has_operation target h)) refl
   where
-    go : (b : Bool) → (nat_le last at && (devices h == 1) && not (has_operation target h)) ≡ b → IsFirstEntry (cond b (request_input at client target h) (refused last n Cause.UnknownVerb)).event h
+    go : (b : Bool) → (nat_le last at && (devices h == 1) && not (has_operation target h)) ≡ b → IsPlainEntry (cond b (request_input at client target h) (refused last n Cause.UnknownVerb)).event h
     go true k = record { device = eqb-true (devices h) 1 (and-right _ _ (and-left _ _ k)); is_off = refl; no_levels = refl }
     go false k = tt
-first-input (Said.Exit at run code) h last n = go (nat_le last at) (is_alive run h)
+plain-input (Said.Exit at run code) h last n = go (nat_le last at) (is_alive run h)
   where
-    go : (b c : Bool) → IsFirstEntry (cond b (cond c (record { moment = at; event = Event.Exit (record { run = record { 0 = run }; exit = Exit.Code code; listed = false }) }) (refused at n Cause.UnknownRun)) (refused last n Cause.UnknownVerb)).event h
+    go : (b c : Bool) → IsPlainEntry (cond b (cond c (record { moment = at; event = Event.Exit (record { run = record { 0 = run }; exit = Exit.Code code; listed = false }) }) (refused at n Cause.UnknownRun)) (refused last n Cause.UnknownVerb)).event h
     go true true = tt
     go true false = tt
     go false c = tt
-first-input Said.Other h last n = tt
+plain-input Said.Other h last n = tt
 
-first-given : (x : Happening) (h : History) (last n : ℕ) (e : Entry) → Gives x h last n e → IsFirstEntry e.event h
-first-given (Happening.Line bytes) h last n e (inl k) = subst (λ (d : Entry). IsFirstEntry d.event h) (sym k) (first-input (said bytes) h last n)
-first-given (Happening.Line bytes) h last n e (inr k) = subst (λ (d : Entry). IsFirstEntry d.event h) (sym k.1) tt
-first-given (Happening.TooLong size) h last n e g = subst (λ (d : Entry). IsFirstEntry d.event h) (sym g) tt
-first-given Happening.Again h last n e g = absurd g
+plain-given : (x : Happening) (h : History) (last n : ℕ) (e : Entry) → Gives x h last n e → IsPlainEntry e.event h
+plain-given (Happening.Line bytes) h last n e (inl k) = subst (λ (d : Entry). IsPlainEntry d.event h) (sym k) (plain-input (said bytes) h last n)
+plain-given (Happening.Line bytes) h last n e (inr k) = subst (λ (d : Entry). IsPlainEntry d.event h) (sym k.1) tt
+plain-given (Happening.TooLong size) h last n e g = subst (λ (d : Entry). IsPlainEntry d.event h) (sym g) tt
+plain-given Happening.Again h last n e g = absurd g
 
 -- and so the session goes on
-first-entered : (old new : Cored) (e : Entry) → IsFirst old.history → (enters : Enters old new e.moment e.event) → IsFirstEntry e.event (enters.advance ++ old.history) → IsFirst new.history
-first-entered old new e f n k =
-    subst IsFirst (sym n.history) (first-replied e.moment n.replies _ n.answered (k, first-replied e.moment n.advance old.history n.at_once f))
+plain-entered : (old new : Cored) (e : Entry) → IsPlainJournal old.history → (enters : Enters old new e.moment e.event) → IsPlainEntry e.event (enters.advance ++ old.history) → IsPlainJournal new.history
+plain-entered old new e f n k =
+    subst IsPlainJournal (sym n.history) (plain-replied e.moment n.replies _ n.answered (k, plain-replied e.moment n.advance old.history n.at_once f))
 
-pub first-taken : (x : Happening) (old new : Cored) → IsFirst old.history → TakesLine x old new → IsFirst new.history
-first-taken x old new f t = first-entered old new t.entry f t.enters (first-given x _ old.last (next_line old) t.entry t.is)
+pub plain-taken : (x : Happening) (old new : Cored) → IsPlainJournal old.history → TakesLine x old new → IsPlainJournal new.history
+plain-taken x old new f t = plain-entered old new t.entry f t.enters (plain-given x _ old.last (next_line old) t.entry t.is)
 
-pub first-refused : (old new : Cored) (m n : ℕ) (cause : Cause) → IsFirst old.history → TakesInput (refused m n cause) old new → IsFirst new.history
-first-refused old new m n cause f t = first-entered old new t.entry f t.enters (go t.is)
+pub plain-refused : (old new : Cored) (m n : ℕ) (cause : Cause) → IsPlainJournal old.history → TakesInput (refused m n cause) old new → IsPlainJournal new.history
+plain-refused old new m n cause f t = plain-entered old new t.entry f t.enters (go t.is)
   where
-    go : IsInput (refused m n cause) (next_line old) t.entry → IsFirstEntry t.entry.event (t.enters.advance ++ old.history)
-    go (inl k) = subst (λ (d : Entry). IsFirstEntry d.event (t.enters.advance ++ old.history)) (sym k) tt
+    go : IsInput (refused m n cause) (next_line old) t.entry → IsPlainEntry t.entry.event (t.enters.advance ++ old.history)
+    go (inl k) = subst (λ (d : Entry). IsPlainEntry d.event (t.enters.advance ++ old.history)) (sym k) tt
     go (inr k) = cc
 
 -- also after an advance, which is no line
-pub first-advanced : (old new : Cored) (m : ℕ) → IsFirst old.history → Advances old new m → IsFirst new.history
-first-advanced old new m f a = subst IsFirst (sym a.history) (first-replied m a.advance old.history a.at_once f)
+pub plain-advanced : (old new : Cored) (m : ℕ) → IsPlainJournal old.history → Advances old new m → IsPlainJournal new.history
+plain-advanced old new m f a = subst IsPlainJournal (sym a.history) (plain-replied m a.advance old.history a.at_once f)
 
 pub advance-uncounted : (old new : Cored) (m : ℕ) → Advances old new m → inputs new.history ≡ inputs old.history
 advance-uncounted old new m a = ap inputs a.history ∙ inputs-replied m a.advance old.history a.at_once

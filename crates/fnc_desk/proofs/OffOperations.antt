@@ -17,7 +17,7 @@ use Rattle.fnc_journal.proofs.Each.{any-same, each-map}
 use Rattle.fnc_journal.proofs.Closing.{open-found}
 use Rattle.fnc_core.specs.Cored.{Cored, ask_need, wanted_by}
 use Rattle.fnc_core.specs.declared.change.Ask.{Ask}
-use Rattle.fnc_desk.specs.FirstSession.{IsFirst, IsFirstEntry}
+use Rattle.fnc_desk.specs.PlainJournal.{IsPlainJournal, IsPlainEntry}
 use Rattle.fnc_desk.specs.Inputs.{has_operation}
 use Rattle.fnc_desk.specs.Plain.{only_plan}
 use Rattle.fnc_desk.proofs.OneDevice.{HasOne, one-known, only_device}
@@ -32,11 +32,11 @@ some_same : (a b : Asked) → ◌≡◌ {A = Option Asked} (Some a) (Some b) →
 some_same a b e = cc
 
 -- every request is one
-off-asked : (h : History) → IsFirst h → (n : ℕ) (a : Asked) → asked n h ≡ Some a → IsOff a
+off-asked : (h : History) → IsPlainJournal h → (n : ℕ) (a : Asked) → asked n h ≡ Some a → IsOff a
 off-asked [] f n a e = cc
 off-asked (e ∷ before) f n a q = go e.event f.0 q (λ p. off-asked before f.1 n a p)
   where
-    go : (event : Event) → IsFirstEntry event before → or_here (asked n before) (asked_here n e.moment before event) ≡ Some a → (asked n before ≡ Some a → IsOff a) → IsOff a
+    go : (event : Event) → IsPlainEntry event before → or_here (asked n before) (asked_here n e.moment before event) ≡ Some a → (asked n before ≡ Some a → IsOff a) → IsOff a
     go (Event.Ask ask) k q ih = here (asked n before) (n == ask.req.0) q ih
       where
         said : Asked
@@ -110,7 +110,7 @@ joins-only h m n begin target total coin wanted = rw (never-on n begin target to
 operation_same : (a b : Operation) → ◌≡◌ {A = Option Operation} (Some a) (Some b) → a ≡ b
 operation_same a b e = cc
 
-joins-open : (h : History) → IsFirst h → (m : ℕ) (wanted : List ℕ) (o : Operation) → operation o.req h ≡ Some o → is_joinable h m Kind.Off wanted o ≡ bytes_eq wanted o.target
+joins-open : (h : History) → IsPlainJournal h → (m : ℕ) (wanted : List ℕ) (o : Operation) → operation o.req h ≡ Some o → is_joinable h m Kind.Off wanted o ≡ bytes_eq wanted o.target
 joins-open h f m wanted o e = go (asked o.req h) refl e
   where
     begun : (a : Asked) → IsOff a → (b : Bool) → cond b (Some (operation_of o.req a)) None ≡ Some o → is_joinable h m Kind.Off wanted o ≡ bytes_eq wanted o.target
@@ -133,13 +133,13 @@ found-any {X} p (x ∷ xs) = go (p x) (found-any p xs)
     go false e = e
 
 -- a request joins an operation exactly where one is open for its target
-pub joined-open : (h : History) → IsFirst h → (m : ℕ) (target : List ℕ) → is_some (joined h m Kind.Off target) ≡ has_operation target h
+pub joined-open : (h : History) → IsPlainJournal h → (m : ℕ) (target : List ℕ) → is_some (joined h m Kind.Off target) ≡ has_operation target h
 joined-open h f m target =
     found-any (is_joinable h m Kind.Off target) (open_operations h)
     ∙ any-same (is_joinable h m Kind.Off target) (λ (o : Operation). bytes_eq target o.target) (open_operations h)
     (each-map _ _ (open_operations h) (λ o e. joins-open h f m target o e) (open-found h))
 
-pub joined-none : (h : History) → IsFirst h → (m : ℕ) (target : List ℕ) → has_operation target h ≡ false → joined h m Kind.Off target ≡ None
+pub joined-none : (h : History) → IsPlainJournal h → (m : ℕ) (target : List ℕ) → has_operation target h ≡ false → joined h m Kind.Off target ≡ None
 joined-none h f m target e = go (joined h m Kind.Off target) (joined-open h f m target ∙ e)
   where
     go : (x : Option Operation) → is_some x ≡ false → x ≡ None
@@ -151,7 +151,7 @@ abbrev pub off_ask : List ℕ → List ℕ → Ask
 off_ask client target = record { client = client; kind = Kind.Off; target = target; total = 600_000; coin = 0 }
 
 -- such a request needs six entries
-pub six-needed : (v : Cored) (client target : List ℕ) → IsFirst v.history → devices v.history ≡ 1 → has_operation target v.history ≡ false → ask_need v (off_ask client target) only_plan ≡ 6
+pub six-needed : (v : Cored) (client target : List ℕ) → IsPlainJournal v.history → devices v.history ≡ 1 → has_operation target v.history ≡ false → ask_need v (off_ask client target) only_plan ≡ 6
 six-needed v client target f d e =
     let one : HasOne v.history = one-known v.history f d in
     ap (wanted_by v v.last (off_ask client target) only_plan) (joined-none v.history f v.last target e) ∙ rw (one.registered) refl

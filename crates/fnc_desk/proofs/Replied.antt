@@ -13,7 +13,7 @@ use Rattle.fnc_journal.specs.Served.{AreReplies}
 use Rattle.fnc_journal.specs.Slots.{Operation}
 use Rattle.fnc_journal.specs.Startable.{is_alive}
 use Rattle.fnc_journal.proofs.Closing.{reply}
-use Rattle.fnc_desk.specs.FirstSession.{IsFirst}
+use Rattle.fnc_desk.specs.PlainJournal.{IsPlainJournal}
 use Rattle.fnc_desk.specs.Inputs.{has_operation, inputs}
 
 -- what each reply keeps, replies keep
@@ -49,8 +49,8 @@ module _ (m : ℕ) (rs h : History) (a : AreReplies m rs) where
   is_alive-replied run = kept-replies (λ g. is_alive run g ≡ is_alive run h) m rs h a (λ n req answer g e. e) refl
 
   -- a first session goes on
-  pub first-replied : IsFirst h → IsFirst (rs ++ h)
-  first-replied f = kept-replies IsFirst m rs h a (λ n req answer g p. (tt, p)) f
+  pub plain-replied : IsPlainJournal h → IsPlainJournal (rs ++ h)
+  plain-replied f = kept-replies IsPlainJournal m rs h a (λ n req answer g p. (tt, p)) f
 
 -- what passes a narrower test passes a wider one
 any-wider : (p q : ℕ → Bool) → ((x : ℕ) → p x ≡ true → q x ≡ true) → (xs : List ℕ) → has_any (filter p xs) ≡ true → has_any (filter q xs) ≡ true

@@ -1,4 +1,4 @@
--- The plain device of the first session: the agent's defaults, with no word of its own.
+-- The plain device: the agent's defaults, with no word of its own.
 use Rattle.std.specs.Prelude.{ℕ, List, [], ◌∷◌, true, false, Some, None, codes, pos}
 use Rattle.fnc_journal.specs.declared.definition.Allowed.{Allowed}
 use Rattle.fnc_journal.specs.declared.definition.Base.{Base}

@@ -1,5 +1,5 @@
--- What a line says, in the language of the first session: words separated by spaces, of which the first is the
--- moment, in milliseconds, and the second the verb.
+-- What a line says: words separated by spaces, of which the first is the moment, in milliseconds, and the second the
+-- verb.
 use Rattle.std.specs.Prelude.{ℕ, List, [], ◌∷◌, ◌^◌, ◌-◌, Bool, ◌||◌, ◌&&◌, ◌==◌, if◌then◌else◌, nat_le, length, Option, Some, None, codes, bytes_eq}
 use Rattle.std.specs.List.{list_all}
 use Rattle.std.specs.Char.{is_ascii_alphanumeric}
@@ -22,7 +22,7 @@ is_name_byte b = is_ascii_alphanumeric b || b == 45 || b == 46 || b == 95 || b =
 abbrev pub is_name : List ℕ → Bool
 is_name word = nat_le (length word) 255 && list_all is_name_byte word
 
--- the last moment of a first session: one minute has not passed
+-- the last moment of a session: one minute has not passed
 abbrev pub last_moment : ℕ
 last_moment = 59_999
 

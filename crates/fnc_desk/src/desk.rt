@@ -23,14 +23,14 @@ pub struct Desk {
 impl Model for Desk {
     ghost use Rattle.std.specs.Prelude.{◌≡◌, ◌-◌, ◌^◌, min};
     ghost use Rattle.fnc_core.specs.Cored.{Cored};
-    ghost use Rattle.fnc_desk.specs.FirstSession.{IsFirst};
+    ghost use Rattle.fnc_desk.specs.PlainJournal.{IsPlainJournal};
     ghost use Rattle.fnc_desk.specs.Inputs.{inputs};
 
     ghost Value = { Cored };
 
     ghost view = { λ d. d.core };
 
-    ghost invariant = { λ d. (d.lines ≡ min (inputs d.core.history) (2 ^ 32 - 1)) × IsFirst d.core.history };
+    ghost invariant = { λ d. (d.lines ≡ min (inputs d.core.history) (2 ^ 32 - 1)) × IsPlainJournal d.core.history };
 }
 
 impl Desk {

@@ -7,7 +7,7 @@ ghost use Rattle.fnc_journal.specs.declared.entry.Kind.{Kind};
 ghost use Rattle.fnc_journal.specs.Found.{devices};
 ghost use Rattle.fnc_outside.specs.Events.{Happening};
 ghost use Rattle.fnc_desk.specs.Entered.{TakesInput, InputLacksRoom, TakesLine, LacksRoom, next_line};
-ghost use Rattle.fnc_desk.specs.FirstSession.{IsFirst};
+ghost use Rattle.fnc_desk.specs.PlainJournal.{IsPlainJournal};
 ghost use Rattle.fnc_desk.specs.Said.{Said};
 ghost use Rattle.fnc_desk.specs.Inputs.{device_input, exit_input, has_operation, input_of, refused, request_input};
 ghost use Rattle.fnc_desk.specs.Reading.{IsEarly, meant};
@@ -44,7 +44,7 @@ fn misunderstood(core: &mut Core, line: u32) -> Result<(), Full>
 
 /// Whether the device is registered.
 fn has_device(core: &Core) -> bool
-    requires { IsFirst core.now.history }
+    requires { IsPlainJournal core.now.history }
     ensures yes { OnTrue result (devices core.now.history ≡ 1) }
     ensures no { OnFalse result (devices core.now.history ≡ 0) }
 {
@@ -53,7 +53,7 @@ fn has_device(core: &Core) -> bool
 
 /// Whether a device may be registered: there is none yet.
 fn takes_device(core: &Core, moment: u64) -> bool
-    requires { IsFirst core.now.history }
+    requires { IsPlainJournal core.now.history }
     ensures { result ≡ nat_le core.now.last moment && (devices core.now.history == 0) }
 {
     core.last() <= moment && !has_device(core)
@@ -75,7 +75,7 @@ fn register(core: &mut Core, alloc: Global, line: u32, moment: u64, name: &str) 
 
 /// Enters `device NAME`.
 fn device(core: &mut Core, alloc: Global, line: u32, moment: u64, name: &str) -> Result<(), Full>
-    requires session { IsFirst core.old.history }
+    requires session { IsPlainJournal core.old.history }
     requires number { line ≡ next_line core.old }
     requires early { moment ≤ 10 ^ 15 }
     ensures ok { OnOk result (TakesInput (input_of (Said.Device moment name.now) core.old.history core.old.last line) core.old core.new) }
@@ -90,7 +90,7 @@ fn device(core: &mut Core, alloc: Global, line: u32, moment: u64, name: &str) ->
 
 /// Whether an operation for the target is open, which a request for it would join.
 fn has_target(core: &Core, target: &str) -> bool
-    requires { IsFirst core.now.history }
+    requires { IsPlainJournal core.now.history }
     ensures { result ≡ has_operation target.now core.now.history }
 {
     core.joinable(target, Kind::Off).is_some()
@@ -98,7 +98,7 @@ fn has_target(core: &Core, target: &str) -> bool
 
 /// Whether a target may be asked for: there is a device, and no operation for the target is open.
 fn takes_request(core: &Core, moment: u64, target: &str) -> bool
-    requires { IsFirst core.now.history }
+    requires { IsPlainJournal core.now.history }
     ensures { result ≡ nat_le core.now.last moment && (devices core.now.history == 1) && not (has_operation target.now core.now.history) }
 {
     core.last() <= moment && has_device(core) && !has_target(core, target)
@@ -125,7 +125,7 @@ fn begin(
     client: &str,
     target: &str,
 ) -> Result<(), Full>
-    requires session { IsFirst core.old.history }
+    requires session { IsPlainJournal core.old.history }
     requires number { line ≡ next_line core.old }
     requires later { core.old.last ≤ moment }
     requires early { moment ≤ 10 ^ 15 }
@@ -157,7 +157,7 @@ fn ask(
     client: &str,
     target: &str,
 ) -> Result<(), Full>
-    requires session { IsFirst core.old.history }
+    requires session { IsPlainJournal core.old.history }
     requires number { line ≡ next_line core.old }
     requires early { moment ≤ 10 ^ 15 }
     ensures ok { OnOk result (TakesInput (input_of (Said.Ask moment client.now target.now) core.old.history core.old.last line) core.old core.new) }
@@ -199,7 +199,7 @@ fn exit(core: &mut Core, line: u32, moment: u64, run: Run, code: u8) -> Result<(
 
 /// Enters the input that a line calls for which was read.
 fn understand(core: &mut Core, alloc: Global, line: u32, said: Line<'_>) -> Result<(), Full>
-    requires session { IsFirst core.old.history }
+    requires session { IsPlainJournal core.old.history }
     requires number { line ≡ next_line core.old }
     requires early { IsEarly said }
     ensures ok { OnOk result (TakesInput (input_of (meant said.entry) core.old.history core.old.last line) core.old core.new) }
@@ -224,7 +224,7 @@ pub(crate) fn enter_line(
     number: u32,
     line: &[u8],
 ) -> Result<(), Full>
-    requires session { IsFirst core.old.history }
+    requires session { IsPlainJournal core.old.history }
     requires number { number ≡ next_line core.old }
     ensures ok { OnOk result (TakesLine (Happening.Line line.now) core.old core.new) }
     ensures full { IfErr result (LacksRoom (Happening.Line line.now) core.old core.new) }
