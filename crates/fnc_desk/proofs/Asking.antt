@@ -20,7 +20,8 @@ use Rattle.fnc_desk.proofs.OffOperations.{joined-none, off_ask, six-needed}
 use Rattle.fnc_desk.proofs.Replied.{devices-replied, plain-replied, none-open}
 
 -- a request that the core took, with the number that came next
-pub takes-request : (old new : Cored) (m : ℕ) (req : Req) (a : Ask) (p : Plan) (client target : List ℕ) → a ≡ off_ask client target → p ≡ only_plan → IsPlainJournal old.history → has_operation target old.history ≡ false →
+pub takes-request : (old new : Cored) (m : ℕ) (req : Req) (a : Ask) (p : Plan) (client target : List ℕ) →
+    a ≡ off_ask client target → p ≡ only_plan → IsPlainJournal old.history → has_operation target old.history ≡ false →
     old.last ≤ m → req.0 ≡ asks old.history → Asks old new m a p req → TakesInput (request_input m client target old.history) old new
 takes-request old new m req a p client target a-is p-is first free later number k =
     takes-known (request_input m client target old.history) old new later (subst (λ (event : Event). Enters old new m event) event-is k.enters)
@@ -43,7 +44,8 @@ takes-request old new m req a p client target a-is p-is first free later number 
         ∙ ap (λ n. ask_of (record { 0 = n }) client target) number
 
 -- and one for which it has no room
-pub lacks-request : (old new : Cored) (m : ℕ) (a : Ask) (p : Plan) (full : Full) (client target : List ℕ) → a ≡ off_ask client target → p ≡ only_plan → IsPlainJournal old.history → devices old.history ≡ 1 →
+pub lacks-request : (old new : Cored) (m : ℕ) (a : Ask) (p : Plan) (full : Full) (client target : List ℕ) →
+    a ≡ off_ask client target → p ≡ only_plan → IsPlainJournal old.history → devices old.history ≡ 1 →
     has_operation target old.history ≡ false → old.last ≤ m → Advances old new m → IsFull new (ask_need new a p) full → InputLacksRoom (request_input m client target old.history) old new full
 lacks-request old new m a p full client target a-is p-is first device free later k f =
     lacks-known (request_input m client target old.history) old new full later k (subst (λ n. IsFull new n full) need-is f)

@@ -1,5 +1,29 @@
--- What a first session knows: no device or the plain one, no level, and so one plan for every request.
-use Rattle.std.proofs.Common.{ℕ, List, [], ◌∷◌, ◌≡◌, ◌+◌, Bool, true, false, refl, ap, sym, ◌∙◌, subst, Option, Some, None, is_some, arith, inl, inr, rules, Bor}
+-- What a plain journal knows: no device or the plain one, no level, and so one plan for every request.
+use Rattle.std.proofs.Common.{
+  ℕ,
+  List,
+  [],
+  ◌∷◌,
+  ◌≡◌,
+  ◌+◌,
+  Bool,
+  true,
+  false,
+  refl,
+  ap,
+  sym,
+  ◌∙◌,
+  subst,
+  Option,
+  Some,
+  None,
+  is_some,
+  arith,
+  inl,
+  inr,
+  rules,
+  Bor,
+}
 use Rattle.std.specs.Prelude.{◌⊎◌, bytes_eq}
 use Rattle.std.specs.Bool.{OnTrue, OnFalse}
 use Rattle.std.specs.Option.{option_copied}
@@ -41,7 +65,8 @@ pub record HasOne (h : History) : Type 0 where
   pub counted : devices h ≡ 1
   pub registered : registration 0 h ≡ Some (record { name = name; agent = agent; definition = plain })
   pub current_is : current name h ≡ Some 0
-  pub candidates_are : (w : Wanted) (g : History) → w.kind ≡ Kind.Off → current name g ≡ Some 0 → candidates_among w g h ≡ only_device ∷ []
+  pub candidates_are : (w : Wanted) (g : History) → w.kind ≡ Kind.Off → current name g ≡ Some 0 →
+      candidates_among w g h ≡ only_device ∷ []
 
 -- the device is registered
 plain-device : (m : ℕ) (name agent : List ℕ) (h : History) → HasNone h → HasOne (record { moment = m; event = Event.Device (record { reg = record { 0 = 0 }; registration = record { name = name; agent = agent; definition = plain } }) } ∷ h)
@@ -55,10 +80,12 @@ plain-device m name agent h n = record {
 }
 
 -- an entry that registers none
-same-none : (e : Entry) (h : History) → devices (e ∷ h) ≡ devices h → registration 0 (e ∷ h) ≡ registration 0 h → ((w : Wanted) (g : History) → candidates_among w g (e ∷ h) ≡ candidates_among w g h) → HasNone h → HasNone (e ∷ h)
+same-none : (e : Entry) (h : History) → devices (e ∷ h) ≡ devices h → registration 0 (e ∷ h) ≡ registration 0 h →
+    ((w : Wanted) (g : History) → candidates_among w g (e ∷ h) ≡ candidates_among w g h) → HasNone h → HasNone (e ∷ h)
 same-none e h d r c n = record { counted = d ∙ n.counted; unregistered = r ∙ n.unregistered; no_candidates = λ w g. c w g ∙ n.no_candidates w g }
 
-same-one : (e : Entry) (h : History) → devices (e ∷ h) ≡ devices h → registration 0 (e ∷ h) ≡ registration 0 h → ((w : Wanted) (g : History) → candidates_among w g (e ∷ h) ≡ candidates_among w g h) →
+same-one : (e : Entry) (h : History) → devices (e ∷ h) ≡ devices h → registration 0 (e ∷ h) ≡ registration 0 h →
+    ((w : Wanted) (g : History) → candidates_among w g (e ∷ h) ≡ candidates_among w g h) →
     ((name : List ℕ) → current name (e ∷ h) ≡ current name h) → HasOne h → HasOne (e ∷ h)
 same-one e h d r c u n = record {
   name = n.name;
@@ -82,7 +109,8 @@ plain-known (e ∷ before) f = go e.event f.0 (plain-known before f.1)
     same event d r c u (inl n) = inl (same-none (record { moment = e.moment; event = event }) before d r c n)
     same event d r c u (inr n) = inr (same-one (record { moment = e.moment; event = event }) before d r c u n)
 
-    device : (reg : ℕ) (r : Registration) → devices before ≡ 0 → reg ≡ 0 → r.definition ≡ plain → HasNone before ⊎ HasOne before →
+    device : (reg : ℕ) (r : Registration) → devices before ≡ 0 → reg ≡ 0 → r.definition ≡ plain →
+        HasNone before ⊎ HasOne before →
         HasOne (record { moment = e.moment; event = Event.Device (record { reg = record { 0 = reg }; registration = r }) } ∷ before)
     device reg r z n p (inl k) =
         subst (λ x. HasOne (record { moment = e.moment; event = Event.Device (record { reg = record { 0 = x }; registration = r }) } ∷ before)) (sym n)
@@ -117,7 +145,8 @@ no-levels : (h : History) → IsPlainJournal h → (t : LevelTarget) → levels 
 no-levels [] f t = refl
 no-levels (e ∷ before) f t = go e.event f.0 (no-levels before f.1 t)
   where
-    go : (event : Event) → IsPlainEntry event before → levels t before ≡ [] → levels t (record { moment = e.moment; event = event } ∷ before) ≡ []
+    go : (event : Event) → IsPlainEntry event before → levels t before ≡ [] →
+        levels t (record { moment = e.moment; event = event } ∷ before) ≡ []
     go (Event.Level set) f k = absurd f
     go (Event.LevelGone cleared) f k = absurd f
     go _ f k = k
@@ -140,7 +169,8 @@ some-copied None = refl
 some-copied (Some b) = refl
 
 -- a device is counted exactly where one has the number 0
-pub device-counted : (h : History) → IsPlainJournal h → (b : Bool) (x : Option (Bor Registration)) → b ≡ is_some x → option_copied x ≡ registration 0 h → OnTrue b (devices h ≡ 1) × OnFalse b (devices h ≡ 0)
+pub device-counted : (h : History) → IsPlainJournal h → (b : Bool) (x : Option (Bor Registration)) → b ≡ is_some x →
+    option_copied x ≡ registration 0 h → OnTrue b (devices h ≡ 1) × OnFalse b (devices h ≡ 0)
 device-counted h f b x p q = go (plain-known h f) (p ∙ sym (some-copied x) ∙ ap is_some q)
   where
     counted : (b : Bool) → b ≡ true → devices h ≡ 1 → OnTrue b (devices h ≡ 1) × OnFalse b (devices h ≡ 0)

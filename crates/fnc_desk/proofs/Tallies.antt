@@ -1,5 +1,38 @@
 -- Counts of entries, and the runs that they leave alive.
-use Rattle.std.proofs.Common.{ℕ, List, [], ◌∷◌, ◌++◌, Bool, true, false, ◌≡◌, ◌≤◌, ◌<◌, ◌+◌, ◌==◌, ◌&&◌, not, cond, refl, sym, ap, ◌∙◌, Option, Some, None, IsTrue, is_some, arith, length, ltb, ltb-true, eqb-true, false-eqb, length-append}
+use Rattle.std.proofs.Common.{
+  ℕ,
+  List,
+  [],
+  ◌∷◌,
+  ◌++◌,
+  Bool,
+  true,
+  false,
+  ◌≡◌,
+  ◌≤◌,
+  ◌<◌,
+  ◌+◌,
+  ◌==◌,
+  ◌&&◌,
+  not,
+  cond,
+  refl,
+  sym,
+  ap,
+  ◌∙◌,
+  Option,
+  Some,
+  None,
+  IsTrue,
+  is_some,
+  arith,
+  length,
+  ltb,
+  ltb-true,
+  eqb-true,
+  false-eqb,
+  length-append,
+}
 use Rattle.std.specs.Prelude.{filter}
 use Rattle.fnc_journal.specs.declared.entry.Entry.{Entry}
 use Rattle.fnc_journal.specs.declared.event.Event.{Event}
@@ -13,7 +46,8 @@ use Rattle.fnc_journal.proofs.Lawfulness.{and-left, and-right, in_order-of}
 use Rattle.fnc_journal.proofs.Running.{alive_runs-start, alive_runs-exit}
 use Rattle.fnc_desk.specs.Tallied.{IsBelow, exits, is_exit, tallied, tally_of}
 
-pub tally-more : (m : ℕ) (event : Event) (h : History) → tallied (tally_of h) event ≡ tally_of (record { moment = m; event = event } ∷ h)
+pub tally-more : (m : ℕ) (event : Event) (h : History) →
+    tallied (tally_of h) event ≡ tally_of (record { moment = m; event = event } ∷ h)
 tally-more m (Event.Ask ask) h = refl
 tally-more m (Event.Reply reply) h = refl
 tally-more m (Event.Start start) h = refl
@@ -74,7 +108,8 @@ once : (h : History) → Lawful h → (r : ℕ) → Once r h
 once [] l r = record { known = λ k. absurd (omega arith); fresh = λ k. refl }
 once (e ∷ before) l r = go e.event (in_order-of e.moment e.event before l.0.ordered) (once before l.1 r)
   where
-    go : (event : Event) → IsTrue (in_order event before) → Once r before → Once r (record { moment = e.moment; event = event } ∷ before)
+    go : (event : Event) → IsTrue (in_order event before) → Once r before →
+        Once r (record { moment = e.moment; event = event } ∷ before)
     go (Event.Start start) i ih = begun (start.run.0 == r) refl
       where
         new : start.run.0 ≡ starts before
@@ -83,7 +118,8 @@ once (e ∷ before) l r = go e.event (in_order-of e.moment e.event before l.0.or
         counted : count r (begun_runs before ++ record { run = start.run.0; reg = start.reg.0 } ∷ []) ≡ count r (begun_runs before) + bit (start.run.0 == r)
         counted = count-append r (begun_runs before) (record { run = start.run.0; reg = start.reg.0 })
 
-        begun : (b : Bool) → (start.run.0 == r) ≡ b → Once r (record { moment = e.moment; event = Event.Start start } ∷ before)
+        begun : (b : Bool) → (start.run.0 == r) ≡ b →
+            Once r (record { moment = e.moment; event = Event.Start start } ∷ before)
         begun true k =
             let same : start.run.0 ≡ r = eqb-true start.run.0 r k in
             let none : count r (begun_runs before) ≡ 0 = ih.fresh (omega (arith, same, new)) in
@@ -99,11 +135,13 @@ once (e ∷ before) l r = go e.event (in_order-of e.moment e.event before l.0.or
     go _ i ih = record { known = ih.known; fresh = ih.fresh }
 
 -- those that pass a test which one number passes
-count-kept : (r : ℕ) (p : ℕ → Bool) (bs : List Begun) → p r ≡ true → count r (filter (λ (b : Begun). p b.run) bs) ≡ count r bs
+count-kept : (r : ℕ) (p : ℕ → Bool) (bs : List Begun) → p r ≡ true →
+    count r (filter (λ (b : Begun). p b.run) bs) ≡ count r bs
 count-kept r p [] e = refl
 count-kept r p (b ∷ bs) e = go (p b.run) refl (b.run == r) refl (count-kept r p bs e)
   where
-    go : (t : Bool) → p b.run ≡ t → (u : Bool) → (b.run == r) ≡ u → count r (filter (λ (b : Begun). p b.run) bs) ≡ count r bs →
+    go : (t : Bool) → p b.run ≡ t → (u : Bool) → (b.run == r) ≡ u →
+        count r (filter (λ (b : Begun). p b.run) bs) ≡ count r bs →
         count r (cond t (b ∷ filter (λ (b : Begun). p b.run) bs) (filter (λ (b : Begun). p b.run) bs)) ≡ cond u (count r bs + 1) (count r bs)
     go true k true f ih = rw f (ap (λ n. n + 1) ih)
     go true k false f ih = rw f ih
@@ -147,7 +185,8 @@ pub alive-counted : (h : History) → Lawful h → starts h ≡ length (alive_ru
 alive-counted [] l = refl
 alive-counted (e ∷ before) l = go e.event (in_order-of e.moment e.event before l.0.ordered) l.0.exits (alive-counted before l.1)
   where
-    go : (event : Event) → IsTrue (in_order event before) → IsTrue (exit_of event before) → starts before ≡ length (alive_runs before) + exits before →
+    go : (event : Event) → IsTrue (in_order event before) → IsTrue (exit_of event before) →
+        starts before ≡ length (alive_runs before) + exits before →
         starts (record { moment = e.moment; event = event } ∷ before)
         ≡ length (alive_runs (record { moment = e.moment; event = event } ∷ before)) + exits (record { moment = e.moment; event = event } ∷ before)
     go (Event.Start start_) i x ih =
@@ -164,6 +203,7 @@ pub prefix-most : (h : History) (n : ℕ) → length (prefix n h) ≤ n
 prefix-most [] n = omega arith
 prefix-most (e ∷ before) n = go (ltb (length before) n) refl (prefix-most before n)
   where
-    go : (b : Bool) → ltb (length before) n ≡ b → length (prefix n before) ≤ n → length (cond b (e ∷ before) (prefix n before)) ≤ n
+    go : (b : Bool) → ltb (length before) n ≡ b → length (prefix n before) ≤ n →
+        length (cond b (e ∷ before) (prefix n before)) ≤ n
     go true k ih = let less : length before < n = ltb-true (length before) n k in omega (arith, less)
     go false k ih = ih

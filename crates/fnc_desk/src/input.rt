@@ -1,7 +1,7 @@
 // What a line that was read calls for: the input that it gives, and how that enters the core.
 
 ghost use Rattle.std.specs.Bool.{OnTrue, OnFalse};
-ghost use Rattle.std.specs.Prelude.{◌≡◌, ◌≤◌, ◌^◌, ◌==◌, ◌&&◌, not, nat_le, OnOk, IfErr, false};
+ghost use Rattle.std.specs.Prelude.{◌≡◌, ◌≤◌, ◌==◌, ◌&&◌, not, nat_le, OnOk, IfErr, false};
 ghost use Rattle.fnc_journal.specs.declared.cause.Cause.{Cause};
 ghost use Rattle.fnc_journal.specs.declared.entry.Kind.{Kind};
 ghost use Rattle.fnc_journal.specs.Found.{devices};
@@ -15,17 +15,15 @@ ghost use Rattle.fnc_desk.specs.Reading.{IsEarly, meant};
 use crate::line::{Line, read_line};
 use crate::plain::{only_plan, registration};
 use fnc_core::{Ask, AskRefusal, Change, Core, UnknownRun};
+use fnc_journal::limits::{DEFAULT_TOTAL, GREATEST_MOMENT};
 use fnc_journal::{Cause, Exit, Full, Kind, NoMemory, Reg, Run, Text};
 use std::alloc::Global;
-
-/// The total time of a request, in milliseconds: ten minutes.
-const TOTAL: u64 = 600_000;
 
 /// Refuses the line of a number, for a cause.
 pub(crate) fn refuse(core: &mut Core, line: u32, moment: u64, cause: Cause) -> Result<(), Full>
     requires number { line ≡ next_line core.old }
     requires later { core.old.last ≤ moment }
-    requires early { moment ≤ 10 ^ 15 }
+    requires early { moment ≤ GREATEST_MOMENT }
     ensures ok { OnOk result (TakesInput (refused moment line cause) core.old core.new) }
     ensures full { IfErr result (InputLacksRoom (refused moment line cause) core.old core.new) }
 {
@@ -62,7 +60,7 @@ fn takes_device(core: &Core, moment: u64) -> bool
 fn register(core: &mut Core, alloc: Global, line: u32, moment: u64, name: &str) -> Result<(), Full>
     requires number { line ≡ next_line core.old }
     requires later { core.old.last ≤ moment }
-    requires early { moment ≤ 10 ^ 15 }
+    requires early { moment ≤ GREATEST_MOMENT }
     requires first { devices core.old.history ≡ 0 }
     ensures ok { OnOk result (TakesInput (device_input moment name.now) core.old core.new) }
     ensures full { IfErr result (InputLacksRoom (device_input moment name.now) core.old core.new) }
@@ -77,9 +75,11 @@ fn register(core: &mut Core, alloc: Global, line: u32, moment: u64, name: &str) 
 fn device(core: &mut Core, alloc: Global, line: u32, moment: u64, name: &str) -> Result<(), Full>
     requires session { IsPlainJournal core.old.history }
     requires number { line ≡ next_line core.old }
-    requires early { moment ≤ 10 ^ 15 }
-    ensures ok { OnOk result (TakesInput (input_of (Said.Device moment name.now) core.old.history core.old.last line) core.old core.new) }
-    ensures full { IfErr result (InputLacksRoom (input_of (Said.Device moment name.now) core.old.history core.old.last line) core.old core.new) }
+    requires early { moment ≤ GREATEST_MOMENT }
+    ensures ok { OnOk result (TakesInput (input_of (Said.Device moment name.now) core.old.history core.old.last line)
+        core.old core.new) }
+    ensures full { IfErr result (InputLacksRoom
+        (input_of (Said.Device moment name.now) core.old.history core.old.last line) core.old core.new) }
 {
     if takes_device(core, moment) {
         register(core, alloc, line, moment, name)
@@ -99,20 +99,21 @@ fn has_target(core: &Core, target: &str) -> bool
 /// Whether a target may be asked for: there is a device, and no operation for the target is open.
 fn takes_request(core: &Core, moment: u64, target: &str) -> bool
     requires { IsPlainJournal core.now.history }
-    ensures { result ≡ nat_le core.now.last moment && (devices core.now.history == 1) && not (has_operation target.now core.now.history) }
+    ensures { result ≡ nat_le core.now.last moment && (devices core.now.history == 1)
+        && not (has_operation target.now core.now.history) }
 {
     core.last() <= moment && has_device(core) && !has_target(core, target)
 }
 
 /// What a client asks for: that a target be switched off.
 fn off(client: Text, target: Text) -> Ask
-    ensures { result ≡ record { client = client; kind = Kind.Off; target = target; total = 600_000; coin = 0 } }
+    ensures { result ≡ record { client = client; kind = Kind.Off; target = target; total = DEFAULT_TOTAL; coin = 0 } }
 {
     Ask {
         client,
         kind: Kind::Off,
         target,
-        total: TOTAL,
+        total: DEFAULT_TOTAL,
         coin: 0,
     }
 }
@@ -128,11 +129,13 @@ fn begin(
     requires session { IsPlainJournal core.old.history }
     requires number { line ≡ next_line core.old }
     requires later { core.old.last ≤ moment }
-    requires early { moment ≤ 10 ^ 15 }
+    requires early { moment ≤ GREATEST_MOMENT }
     requires device { devices core.old.history ≡ 1 }
     requires free { has_operation target.now core.old.history ≡ false }
-    ensures ok { OnOk result (TakesInput (request_input moment client.now target.now core.old.history) core.old core.new) }
-    ensures full { IfErr result (InputLacksRoom (request_input moment client.now target.now core.old.history) core.old core.new) }
+    ensures ok { OnOk result (TakesInput (request_input moment client.now target.now core.old.history)
+        core.old core.new) }
+    ensures full { IfErr result (InputLacksRoom (request_input moment client.now target.now core.old.history)
+        core.old core.new) }
 {
     let (Ok(client), Ok(target), Ok(plan)) = (
         Text::new(alloc, client),
@@ -159,9 +162,11 @@ fn ask(
 ) -> Result<(), Full>
     requires session { IsPlainJournal core.old.history }
     requires number { line ≡ next_line core.old }
-    requires early { moment ≤ 10 ^ 15 }
-    ensures ok { OnOk result (TakesInput (input_of (Said.Ask moment client.now target.now) core.old.history core.old.last line) core.old core.new) }
-    ensures full { IfErr result (InputLacksRoom (input_of (Said.Ask moment client.now target.now) core.old.history core.old.last line) core.old core.new) }
+    requires early { moment ≤ GREATEST_MOMENT }
+    ensures ok { OnOk result (TakesInput
+        (input_of (Said.Ask moment client.now target.now) core.old.history core.old.last line) core.old core.new) }
+    ensures full { IfErr result (InputLacksRoom
+        (input_of (Said.Ask moment client.now target.now) core.old.history core.old.last line) core.old core.new) }
 {
     if takes_request(core, moment, target) {
         begin(core, alloc, line, moment, client, target)
@@ -173,9 +178,10 @@ fn ask(
 fn end(core: &mut Core, line: u32, moment: u64, run: Run, code: u8) -> Result<(), Full>
     requires number { line ≡ next_line core.old }
     requires later { core.old.last ≤ moment }
-    requires early { moment ≤ 10 ^ 15 }
+    requires early { moment ≤ GREATEST_MOMENT }
     ensures ok { OnOk result (TakesInput (exit_input moment run.0 code core.old.history line) core.old core.new) }
-    ensures full { IfErr result (InputLacksRoom (exit_input moment run.0 code core.old.history line) core.old core.new) }
+    ensures full { IfErr result (InputLacksRoom (exit_input moment run.0 code core.old.history line)
+        core.old core.new) }
 {
     match core.exit(moment, run, Exit::Code(code), false) {
         Ok(()) => Ok(()),
@@ -186,9 +192,11 @@ fn end(core: &mut Core, line: u32, moment: u64, run: Run, code: u8) -> Result<()
 /// Enters `exit RUN CODE`.
 fn exit(core: &mut Core, line: u32, moment: u64, run: Run, code: u8) -> Result<(), Full>
     requires number { line ≡ next_line core.old }
-    requires early { moment ≤ 10 ^ 15 }
-    ensures ok { OnOk result (TakesInput (input_of (Said.Exit moment run.0 code) core.old.history core.old.last line) core.old core.new) }
-    ensures full { IfErr result (InputLacksRoom (input_of (Said.Exit moment run.0 code) core.old.history core.old.last line) core.old core.new) }
+    requires early { moment ≤ GREATEST_MOMENT }
+    ensures ok { OnOk result (TakesInput (input_of (Said.Exit moment run.0 code) core.old.history core.old.last line)
+        core.old core.new) }
+    ensures full { IfErr result (InputLacksRoom
+        (input_of (Said.Exit moment run.0 code) core.old.history core.old.last line) core.old core.new) }
 {
     if core.last() <= moment {
         end(core, line, moment, run, code)
@@ -202,8 +210,10 @@ fn understand(core: &mut Core, alloc: Global, line: u32, said: Line<'_>) -> Resu
     requires session { IsPlainJournal core.old.history }
     requires number { line ≡ next_line core.old }
     requires early { IsEarly said }
-    ensures ok { OnOk result (TakesInput (input_of (meant said.entry) core.old.history core.old.last line) core.old core.new) }
-    ensures full { IfErr result (InputLacksRoom (input_of (meant said.entry) core.old.history core.old.last line) core.old core.new) }
+    ensures ok { OnOk result (TakesInput (input_of (meant said.entry) core.old.history core.old.last line)
+        core.old core.new) }
+    ensures full { IfErr result (InputLacksRoom (input_of (meant said.entry) core.old.history core.old.last line)
+        core.old core.new) }
 {
     match said {
         Line::Device { moment, name } => device(core, alloc, line, moment, name),

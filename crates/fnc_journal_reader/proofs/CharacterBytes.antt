@@ -1,6 +1,27 @@
 -- Characters are spelled by bytes.
 use lib.Utf8.{encode, encodes, scalar, scalars, scalar_cases}
-use Rattle.std.proofs.Common.{◌≡◌, ◌<◌, ◌+◌, ◌/◌, ◌%◌, ℕ, List, [], ◌∷◌, Bool, true, false, cond, refl, ◌∙◌, subst, arith, ltb, ⊎_elim, lt-ltb}
+use Rattle.std.proofs.Common.{
+  ◌≡◌,
+  ◌<◌,
+  ◌+◌,
+  ◌/◌,
+  ◌%◌,
+  ℕ,
+  List,
+  [],
+  ◌∷◌,
+  Bool,
+  true,
+  false,
+  cond,
+  refl,
+  ◌∙◌,
+  subst,
+  arith,
+  ltb,
+  ⊎_elim,
+  lt-ltb,
+}
 use Rattle.std.specs.Prelude.{nat_lt}
 use Rattle.std.specs.List.{list_all}
 use Rattle.std.specs.Str.{is_utf8}

@@ -1,5 +1,40 @@
 -- The bytes of what is spelled: escaped texts and numbers have no byte that separates.
-use Rattle.std.proofs.Common.{◌≡◌, ◌<◌, ◌≤◌, ◌+◌, ◌*◌, ◌/◌, ◌%◌, ◌^◌, ◌==◌, ℕ, zero, suc, List, [], ◌∷◌, ◌++◌, Bool, true, false, ◌&&◌, ◌||◌, cond, length, decimal, Some, None, Ok, refl, sym, ap, ◌∙◌, arith, rules, eqb-true}
+use Rattle.std.proofs.Common.{
+  ◌≡◌,
+  ◌<◌,
+  ◌≤◌,
+  ◌+◌,
+  ◌*◌,
+  ◌/◌,
+  ◌%◌,
+  ◌^◌,
+  ◌==◌,
+  ℕ,
+  zero,
+  suc,
+  List,
+  [],
+  ◌∷◌,
+  ◌++◌,
+  Bool,
+  true,
+  false,
+  ◌&&◌,
+  ◌||◌,
+  cond,
+  length,
+  decimal,
+  Some,
+  None,
+  Ok,
+  refl,
+  sym,
+  ap,
+  ◌∙◌,
+  arith,
+  rules,
+  eqb-true,
+}
 use Rattle.std.specs.Prelude.{nat_lt, not, bytes_eq}
 use Rattle.std.specs.Char.{is_ascii_digit, is_ascii_hexdigit, digit_value}
 use Rattle.std.specs.List.{list_all}
@@ -48,7 +83,8 @@ byte_matches =
     (λ b. ((λ e. e), (λ e. e))) refl (λ _. refl) 256).0 bytes_checked
 
 -- what holds of a list by its items
-pub all-implied : {X : Type 0} (p q : X → Bool) → ((x : X) → p x ≡ true → q x ≡ true) → (xs : List X) → list_all p xs ≡ true → list_all q xs ≡ true
+pub all-implied : {X : Type 0} (p q : X → Bool) → ((x : X) → p x ≡ true → q x ≡ true) → (xs : List X) →
+    list_all p xs ≡ true → list_all q xs ≡ true
 all-implied p q f [] h = refl
 all-implied p q f (x ∷ xs) h = let parts = and_parts (p x) (list_all p xs) h in rw (f x parts.0, all-implied p q f xs parts.1) refl
 
@@ -103,7 +139,8 @@ spelled-byte b (percent ∷ high ∷ low ∷ []) rest h =
     rw e.marked (ap (λ x. x ∷ spelled rest) e.value)
 spelled-byte b (c ∷ d ∷ e ∷ f ∷ more) rest h = absurd cc
 
-formed-byte : (b : ℕ) (e rest : List ℕ) → reads_back b e ≡ true → ((place : ℕ) → malformed_from place rest ≡ None) → (place : ℕ) → malformed_from place (e ++ rest) ≡ None
+formed-byte : (b : ℕ) (e rest : List ℕ) → reads_back b e ≡ true → ((place : ℕ) → malformed_from place rest ≡ None) →
+    (place : ℕ) → malformed_from place (e ++ rest) ≡ None
 formed-byte b [] rest h more place = absurd cc
 formed-byte b (c ∷ []) rest h more place =
     let parts = and_parts (c == b) (not (c == 37)) h in
@@ -129,7 +166,8 @@ formed-back (b ∷ bs) h place =
     formed-byte b (escaped_byte b) (escaped bs) one.1 (formed-back bs parts.1) place
 
 -- the text that was escaped is read back
-pub unescaped-back : (text : List ℕ) → are_bytes text ≡ true → is_utf8 text ≡ true → unescaped_text (escaped text) ≡ Ok text
+pub unescaped-back : (text : List ℕ) → are_bytes text ≡ true → is_utf8 text ≡ true →
+    unescaped_text (escaped text) ≡ Ok text
 unescaped-back text h u = rw (formed-back text h 0, spelled-back text h, u) refl
 
 -- decimal digits
@@ -169,7 +207,8 @@ other-byte sep b s h = go (b == sep) refl
 pub safe-lacks : (sep : ℕ) (text : List ℕ) → is_safe sep ≡ false → list_all is_safe text ≡ true → lacks sep text ≡ true
 safe-lacks sep text s h = all-implied is_safe (λ b. not (b == sep)) (λ b. other-byte sep b s) text h
 
-pub escaped-lacks : (sep : ℕ) (text : List ℕ) → is_safe sep ≡ false → are_bytes text ≡ true → lacks sep (escaped text) ≡ true
+pub escaped-lacks : (sep : ℕ) (text : List ℕ) → is_safe sep ≡ false → are_bytes text ≡ true →
+    lacks sep (escaped text) ≡ true
 escaped-lacks sep text s h = safe-lacks sep (escaped text) s (escaped-safe text h)
 
 pub decimal-lacks : (sep n : ℕ) → is_safe sep ≡ false → n < 2 ^ 64 → lacks sep (decimal n) ≡ true
@@ -192,7 +231,8 @@ pub escaped-has : (text : List ℕ) → has_byte text ≡ true → has_byte (esc
 escaped-has [] h = absurd cc
 escaped-has (b ∷ bs) h = go (is_plain b)
   where
-    go : (plain : Bool) → has_byte (cond plain (b ∷ []) (37 ∷ hex_digit (b / 16) ∷ hex_digit (b % 16) ∷ []) ++ escaped bs) ≡ true
+    go : (plain : Bool) →
+        has_byte (cond plain (b ∷ []) (37 ∷ hex_digit (b / 16) ∷ hex_digit (b % 16) ∷ []) ++ escaped bs) ≡ true
     go true = refl
     go false = refl
 
@@ -207,6 +247,7 @@ digit-other d c n h = go (d == c) refl
     go true e = absurd (false≢true (sym n ∙ ap is_ascii_digit (sym (eqb-true d c e)) ∙ h))
 
 -- digits are no word that begins with another byte
-pub digits-differ : (ds : List ℕ) (c : ℕ) (cs : List ℕ) → is_ascii_digit c ≡ false → list_all is_ascii_digit ds ≡ true → bytes_eq ds (c ∷ cs) ≡ false
+pub digits-differ : (ds : List ℕ) (c : ℕ) (cs : List ℕ) → is_ascii_digit c ≡ false → list_all is_ascii_digit ds ≡ true →
+    bytes_eq ds (c ∷ cs) ≡ false
 digits-differ [] c cs n h = refl
 digits-differ (d ∷ ds) c cs n h = rw (digit-other d c n (and_parts (is_ascii_digit d) (list_all is_ascii_digit ds) h).0) refl

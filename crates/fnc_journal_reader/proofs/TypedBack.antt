@@ -1,5 +1,30 @@
 -- What is read has the types of an entry's fields.
-use Rattle.std.proofs.Common.{◌≡◌, ◌<◌, ◌≤◌, ◌^◌, ℕ, List, [], ◌∷◌, Bool, true, false, cond, Option, Some, None, Result, Ok, Err, refl, subst, arith, codes, drop, ◌==◌}
+use Rattle.std.proofs.Common.{
+  ◌≡◌,
+  ◌<◌,
+  ◌≤◌,
+  ◌^◌,
+  ℕ,
+  List,
+  [],
+  ◌∷◌,
+  Bool,
+  true,
+  false,
+  cond,
+  Option,
+  Some,
+  None,
+  Result,
+  Ok,
+  Err,
+  refl,
+  subst,
+  arith,
+  codes,
+  drop,
+  ◌==◌,
+}
 use Rattle.std.specs.Prelude.{nat_le, bytes_eq}
 use Rattle.std.specs.List.{list_all, list_any}
 use Rattle.std.specs.Str.{is_utf8}
@@ -32,7 +57,8 @@ record Succeeds {A B : Type 0} (r : Result A EntryFault) (f : A → Result B Ent
   got : r ≡ Ok value
   rest : f value ≡ Ok y
 
-succeeds : {A B : Type 0} (r : Result A EntryFault) (f : A → Result B EntryFault) (y : B) → (r >>= f) ≡ Ok y → Succeeds r f y
+succeeds : {A B : Type 0} (r : Result A EntryFault) (f : A → Result B EntryFault) (y : B) → (r >>= f) ≡ Ok y →
+    Succeeds r f y
 succeeds (Ok x) f y h = record { value = x; got = refl; rest = h }
 succeeds (Err fault) f y h = absurd cc
 
@@ -43,7 +69,8 @@ same h = cc
 most-of : (most : ℕ) (w : List ℕ) (n : ℕ) → Values.number_of most w ≡ Ok n → n ≤ most
 most-of most w n h = go (is_number w) (nat_le (digits_value w) most) refl h
   where
-    go : (digits small : Bool) → nat_le (digits_value w) most ≡ small → or_malformed (cond digits (cond small (Some (digits_value w)) None) None) ≡ Ok n → n ≤ most
+    go : (digits small : Bool) → nat_le (digits_value w) most ≡ small →
+        or_malformed (cond digits (cond small (Some (digits_value w)) None) None) ≡ Ok n → n ≤ most
     go true true e k = subst (λ v. v ≤ most) (same k) (leb-true (digits_value w) most e)
     go true false e k = absurd cc
     go false small e k = absurd cc
@@ -61,7 +88,8 @@ u8-typed w n h = let small : n ≤ 255 = most-of 255 w n h in omega (arith, smal
 text-typed : (w t : List ℕ) → Values.text_of w ≡ Ok t → Typed.are_characters t ≡ true
 text-typed w t h = go (unescaped w) h
   where
-    told : (bytes : List ℕ) (is : Bool) → is_utf8 bytes ≡ is → Values.or_no_text (cond is (Ok bytes) (Err EscapeFault.NotUtf8)) ≡ Ok t → Typed.are_characters t ≡ true
+    told : (bytes : List ℕ) (is : Bool) → is_utf8 bytes ≡ is →
+        Values.or_no_text (cond is (Ok bytes) (Err EscapeFault.NotUtf8)) ≡ Ok t → Typed.are_characters t ≡ true
     told bytes true e k = subst (λ x. is_utf8 x ≡ true) (same k) e
     told bytes false e k = absurd cc
 
@@ -76,7 +104,8 @@ optional-typed (b ∷ bs) t h =
     subst (λ x. Typed.is_optional x ≡ true) (same text.rest) (text-typed (b ∷ bs) text.value text.got)
 
 -- lists
-each-typed : {X : Type 0} (read : List ℕ → Result X EntryFault) (q : X → Bool) → ((w : List ℕ) (x : X) → read w ≡ Ok x → q x ≡ true) → (ws : List (List ℕ)) (xs : List X) → each read ws ≡ Ok xs →
+each-typed : {X : Type 0} (read : List ℕ → Result X EntryFault) (q : X → Bool) →
+    ((w : List ℕ) (x : X) → read w ≡ Ok x → q x ≡ true) → (ws : List (List ℕ)) (xs : List X) → each read ws ≡ Ok xs →
     list_all q xs ≡ true
 each-typed read q f [] xs h = subst (λ ys. list_all q ys ≡ true) (same h) refl
 each-typed read q f (w ∷ ws) xs h =
@@ -142,7 +171,8 @@ scope-typed w s h = go (bytes_eq w (codes "none")) (bytes_eq w (codes "name")) h
 answer-typed : (v w : List ℕ) (a : Answer) → Values.answer_of v w ≡ Ok a → Typed.IsAnswer a
 answer-typed v w a h = go (bytes_eq v (codes "ok")) h
   where
-    success : (is : Bool) → cond is (Ok Answer.Confirmed) (Values.u8_of w >>= λ level. Ok (Answer.Passed level)) ≡ Ok a → Typed.IsAnswer a
+    success : (is : Bool) →
+        cond is (Ok Answer.Confirmed) (Values.u8_of w >>= λ level. Ok (Answer.Passed level)) ≡ Ok a → Typed.IsAnswer a
     success true k = subst Typed.IsAnswer (same k) tt
     success false k = let level = succeeds (Values.u8_of w) _ a k in subst Typed.IsAnswer (same level.rest) (u8-typed w level.value level.got)
 
