@@ -24,18 +24,22 @@ pub takes-request : (old new : Cored) (m : ℕ) (req : Req) (a : Ask) (p : Plan)
     a ≡ off_ask client target → p ≡ only_plan → IsPlainJournal old.history → has_operation target old.history ≡ false →
     old.last ≤ m → req.0 ≡ asks old.history → Asks old new m a p req → TakesInput (request_input m client target old.history) old new
 takes-request old new m req a p client target a-is p-is first free later number k =
-    takes-known (request_input m client target old.history) old new later (subst (λ (event : Event). Enters old new m event) event-is k.enters)
+    takes-known (request_input m client target old.history) old new later
+    (subst (λ (event : Event). Enters old new m event) event-is k.enters)
   where
     met : History
     met = k.enters.advance ++ old.history
 
     alone : k.lead ≡ req
-    alone = k.leads ∙ ap (λ (x : Option Operation). record { 0 = unwrap_or (option_map (λ (o : Operation). o.req) x) req.0 }) none
+    alone =
+        k.leads
+        ∙ ap (λ (x : Option Operation). record { 0 = unwrap_or (option_map (λ (o : Operation). o.req) x) req.0 }) none
       where
         none : joined met m a.kind a.target ≡ None
         none =
             ap (λ (b : Ask). joined met m b.kind b.target) a-is
-            ∙ joined-none met (plain-replied m k.enters.advance old.history k.enters.at_once first) m target (none-open m k.enters.advance old.history k.enters.at_once target free)
+            ∙ joined-none met (plain-replied m k.enters.advance old.history k.enters.at_once first) m target
+            (none-open m k.enters.advance old.history k.enters.at_once target free)
 
     event-is : ask_event req k.lead a p ≡ ask_of (record { 0 = asks old.history }) client target
     event-is =
@@ -48,7 +52,8 @@ pub lacks-request : (old new : Cored) (m : ℕ) (a : Ask) (p : Plan) (full : Ful
     a ≡ off_ask client target → p ≡ only_plan → IsPlainJournal old.history → devices old.history ≡ 1 →
     has_operation target old.history ≡ false → old.last ≤ m → Advances old new m → IsFull new (ask_need new a p) full → InputLacksRoom (request_input m client target old.history) old new full
 lacks-request old new m a p full client target a-is p-is first device free later k f =
-    lacks-known (request_input m client target old.history) old new full later k (subst (λ n. IsFull new n full) need-is f)
+    lacks-known (request_input m client target old.history) old new full later k
+    (subst (λ n. IsFull new n full) need-is f)
   where
     need-is : ask_need new a p ≡ 6
     need-is =

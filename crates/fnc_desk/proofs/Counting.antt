@@ -40,7 +40,8 @@ called-is_input (Said.Device m name) h last n = go (nat_le last m && (devices h 
     go : (b : Bool) → is_input (cond b (device_input m name) (refused last n Cause.UnknownVerb)).event ≡ true
     go true = refl
     go false = refl
-called-is_input (Said.Ask m client target) h last n = go (nat_le last m && (devices h == 1) && not (has_operation target h))
+called-is_input (Said.Ask m client target) h last n =
+    go (nat_le last m && (devices h == 1) && not (has_operation target h))
   where
     go : (b : Bool) →
         is_input (cond b (request_input m client target h) (refused last n Cause.UnknownVerb)).event ≡ true
@@ -74,8 +75,11 @@ entered-counted old new e is n =
     ∙ rw is (ap (λ k. k + 1) (inputs-replied e.moment n.advance old.history n.at_once))
 
 pub line-counted : (x : Happening) (old new : Cored) → TakesLine x old new → inputs new.history ≡ inputs old.history + 1
-line-counted x old new t = entered-counted old new t.entry (given-is_input x (t.enters.advance ++ old.history) old.last _ t.entry t.is) t.enters
+line-counted x old new t =
+    entered-counted old new t.entry (given-is_input x (t.enters.advance ++ old.history) old.last _ t.entry t.is)
+    t.enters
 
 pub refused-counted : (old new : Cored) (m n : ℕ) (cause : Cause) → TakesInput (refused m n cause) old new →
     inputs new.history ≡ inputs old.history + 1
-refused-counted old new m n cause t = entered-counted old new t.entry (or-no-memory (refused m n cause) t.entry _ refl t.is) t.enters
+refused-counted old new m n cause t =
+    entered-counted old new t.entry (or-no-memory (refused m n cause) t.entry _ refl t.is) t.enters

@@ -36,7 +36,8 @@ use Rattle.fnc_desk.proofs.Replied.{inputs-replied}
 
 -- the entry of a device
 abbrev pub device_entry : ℕ → ℕ → Registration → Entry
-device_entry m reg registration = record { moment = m; event = Event.Device (record { reg = record { 0 = reg }; registration = registration }) }
+device_entry m reg registration =
+    record { moment = m; event = Event.Device (record { reg = record { 0 = reg }; registration = registration }) }
 
 pub takes-known : (input : Entry) (old new : Cored) → old.last ≤ input.moment →
     Enters old new input.moment input.event → TakesInput input old new
@@ -126,7 +127,8 @@ refused-only e m line n (inr k) = cc
 
 in-place_of : (input e : Entry) (line n : ℕ) → takes_memory input.event ≡ true → line ≡ n →
     IsInput (refused input.moment line Cause.NoMemory) n e → IsInput input n e
-in-place_of input e line n t l i = inr (t, refused-only e input.moment line n i ∙ ap (λ k. refused input.moment k Cause.NoMemory) l)
+in-place_of input e line n t l i =
+    inr (t, refused-only e input.moment line n i ∙ ap (λ k. refused input.moment k Cause.NoMemory) l)
 
 pub takes-refusal : (input : Entry) (old new : Cored) (line : ℕ) (r : Result (Unit {0}) Full) →
     takes_memory input.event ≡ true → line ≡ next_line old →

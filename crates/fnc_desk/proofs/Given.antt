@@ -60,11 +60,13 @@ untrue false e = refl
 same-input : (s : Said) (h rs : History) (last n m : ℕ) → AreReplies m rs → (last ≡ m → rs ≡ []) →
     (input_of s h last n).moment ≡ m → input_of s (rs ++ h) last n ≡ input_of s h last n
 same-input (Said.Device at name) h rs last n m a still q =
-    ap (λ k. cond (nat_le last at && (k == 0)) (device_input at name) (refused last n Cause.UnknownVerb)) (devices-replied m rs h a)
+    ap (λ k. cond (nat_le last at && (k == 0)) (device_input at name) (refused last n Cause.UnknownVerb))
+    (devices-replied m rs h a)
 same-input (Said.Exit at run code) h rs last n m a still q =
     ap (λ b. cond (nat_le last at) (cond b (record { moment = at; event = Event.Exit (record { run = record { 0 = run }; exit = Exit.Code code; listed = false }) }) (refused at n Cause.UnknownRun)) (refused last n Cause.UnknownVerb))
     (is_alive-replied m rs h a run)
-same-input (Said.Ask at client target) h rs last n m a still q = go (nat_le last at && (devices h == 1) && not (has_operation target h)) refl q
+same-input (Said.Ask at client target) h rs last n m a still q =
+    go (nat_le last at && (devices h == 1) && not (has_operation target h)) refl q
   where
     go : (b : Bool) → (nat_le last at && (devices h == 1) && not (has_operation target h)) ≡ b →
         (cond b (request_input at client target h) (refused last n Cause.UnknownVerb)).moment ≡ m →
@@ -81,7 +83,8 @@ same-input Said.Other h rs last n m a still q = refl
 given-after : (s : Said) (h rs : History) (last n : ℕ) (e : Entry) → AreReplies e.moment rs →
     (last ≡ e.moment → rs ≡ []) → IsInput (input_of s h last n) n e → IsInput (input_of s (rs ++ h) last n) n e
 given-after s h rs last n e a still i =
-    subst (λ (input : Entry). IsInput input n e) (sym (same-input s h rs last n e.moment a still (sym (same-moment (input_of s h last n) e n i)))) i
+    subst (λ (input : Entry). IsInput input n e)
+    (sym (same-input s h rs last n e.moment a still (sym (same-moment (input_of s h last n) e n i)))) i
 
 takes-said : (s : Said) (n : ℕ) (bytes : List ℕ) (old new : Cored) → s ≡ said bytes → n ≡ next_line old →
     TakesInput (input_of s old.history old.last n) old new → TakesLine (Happening.Line bytes) old new
@@ -89,7 +92,9 @@ takes-said s n bytes old new is number t = record {
   entry = t.entry;
   later = t.later;
   enters = t.enters;
-  is = given-after (said bytes) old.history t.enters.advance old.last (next_line old) t.entry t.enters.at_once t.enters.still
+  is =
+      given-after (said bytes) old.history t.enters.advance old.last (next_line old) t.entry t.enters.at_once
+      t.enters.still
       (subst (λ (x : Said). IsInput (input_of x old.history old.last (next_line old)) (next_line old) t.entry) is
       (subst (λ k. IsInput (input_of s old.history old.last k) (next_line old) t.entry) number t.is));
 }
@@ -100,7 +105,9 @@ lacks-said s n bytes old new full is number t = record {
   entry = t.entry;
   later = t.later;
   advances = t.advances;
-  is = given-after (said bytes) old.history t.advances.advance old.last (next_line old) t.entry t.advances.at_once t.advances.still
+  is =
+      given-after (said bytes) old.history t.advances.advance old.last (next_line old) t.entry t.advances.at_once
+      t.advances.still
       (subst (λ (x : Said). IsInput (input_of x old.history old.last (next_line old)) (next_line old) t.entry) is
       (subst (λ k. IsInput (input_of s old.history old.last k) (next_line old) t.entry) number t.is));
   is_full = t.is_full;
@@ -127,11 +134,13 @@ plain-input (Said.Device at name) h last n = go (nat_le last at && (devices h ==
         IsPlainEntry (cond b (device_input at name) (refused last n Cause.UnknownVerb)).event h
     go true k = record { first = eqb-true (devices h) 0 (and-right _ _ k); number = refl; is_plain = refl }
     go false k = tt
-plain-input (Said.Ask at client target) h last n = go (nat_le last at && (devices h == 1) && not (has_operation target h)) refl
+plain-input (Said.Ask at client target) h last n =
+    go (nat_le last at && (devices h == 1) && not (has_operation target h)) refl
   where
     go : (b : Bool) → (nat_le last at && (devices h == 1) && not (has_operation target h)) ≡ b →
         IsPlainEntry (cond b (request_input at client target h) (refused last n Cause.UnknownVerb)).event h
-    go true k = record { device = eqb-true (devices h) 1 (and-right _ _ (and-left _ _ k)); is_off = refl; no_levels = refl }
+    go true k =
+        record { device = eqb-true (devices h) 1 (and-right _ _ (and-left _ _ k)); is_off = refl; no_levels = refl }
     go false k = tt
 plain-input (Said.Exit at run code) h last n = go (nat_le last at) (is_alive run h)
   where
@@ -142,7 +151,8 @@ plain-input (Said.Exit at run code) h last n = go (nat_le last at) (is_alive run
 plain-input Said.Other h last n = tt
 
 plain-given : (x : Happening) (h : History) (last n : ℕ) (e : Entry) → Gives x h last n e → IsPlainEntry e.event h
-plain-given (Happening.Line bytes) h last n e (inl k) = subst (λ (d : Entry). IsPlainEntry d.event h) (sym k) (plain-input (said bytes) h last n)
+plain-given (Happening.Line bytes) h last n e (inl k) =
+    subst (λ (d : Entry). IsPlainEntry d.event h) (sym k) (plain-input (said bytes) h last n)
 plain-given (Happening.Line bytes) h last n e (inr k) = subst (λ (d : Entry). IsPlainEntry d.event h) (sym k.1) tt
 plain-given (Happening.TooLong size) h last n e g = subst (λ (d : Entry). IsPlainEntry d.event h) (sym g) tt
 plain-given Happening.Again h last n e g = absurd g
@@ -152,11 +162,13 @@ plain-entered : (old new : Cored) (e : Entry) → IsPlainJournal old.history →
     (enters : Enters old new e.moment e.event) → IsPlainEntry e.event (enters.advance ++ old.history) →
     IsPlainJournal new.history
 plain-entered old new e f n k =
-    subst IsPlainJournal (sym n.history) (plain-replied e.moment n.replies _ n.answered (k, plain-replied e.moment n.advance old.history n.at_once f))
+    subst IsPlainJournal (sym n.history)
+    (plain-replied e.moment n.replies _ n.answered (k, plain-replied e.moment n.advance old.history n.at_once f))
 
 pub plain-taken : (x : Happening) (old new : Cored) → IsPlainJournal old.history → TakesLine x old new →
     IsPlainJournal new.history
-plain-taken x old new f t = plain-entered old new t.entry f t.enters (plain-given x _ old.last (next_line old) t.entry t.is)
+plain-taken x old new f t =
+    plain-entered old new t.entry f t.enters (plain-given x _ old.last (next_line old) t.entry t.is)
 
 pub plain-refused : (old new : Cored) (m n : ℕ) (cause : Cause) → IsPlainJournal old.history →
     TakesInput (refused m n cause) old new → IsPlainJournal new.history

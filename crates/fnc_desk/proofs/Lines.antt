@@ -146,7 +146,8 @@ known-more _ e h k = tt
 line-more : (event : Event) (e : Entry) (h : History) → Known event h → line_of event (e ∷ h) ≡ line_of event h
 line-more (Event.Start start) e h k =
     ap₂ (λ (x : Option Registration) (y : Option Asked). start_line start.run.0 (unwrap_or (option_map (λ (r : Registration). r.name) x) []) start.kind (unwrap_or (option_map (λ (a : Asked). a.target) y) []) start.attempt)
-    (first-stays (registration start.reg.0 h) (registration_here start.reg.0 e.event) k.0) (first-stays (asked start.req.0 h) (asked_here start.req.0 e.moment h e.event) k.1)
+    (first-stays (registration start.reg.0 h) (registration_here start.reg.0 e.event) k.0)
+    (first-stays (asked start.req.0 h) (asked_here start.req.0 e.moment h e.event) k.1)
 line-more _ e h k = refl
 
 line-found : (h : History) → Lawful h → (n : ℕ) (e : Entry) → entry_at n h ≡ Some e →
@@ -160,8 +161,11 @@ line-found (d ∷ before) l n e f = go (n == length before) f (λ k. line-found 
     go true f ih =
         let known = known-here d.event before (in_order-of d.moment d.event before l.0.ordered) in
         let same : d ≡ e = cc in
-        subst (λ (x : Entry). Known x.event (d ∷ before) × (line_of d.event before ≡ line_of x.event (d ∷ before))) same (known-more d.event d before known, sym (line-more d.event d before known))
-    go false f ih = let earlier = ih f in (known-more e.event d before earlier.0, earlier.1 ∙ sym (line-more e.event d before earlier.0))
+        subst (λ (x : Entry). Known x.event (d ∷ before) × (line_of d.event before ≡ line_of x.event (d ∷ before))) same
+        (known-more d.event d before known, sym (line-more d.event d before known))
+    go false f ih =
+        let earlier = ih f in
+        (known-more e.event d before earlier.0, earlier.1 ∙ sym (line-more e.event d before earlier.0))
 
 -- the line of an entry, with what the whole journal finds
 pub line-whole : (h : History) → Lawful h → (n : ℕ) (e : Entry) → entry_at n h ≡ Some e →
@@ -175,7 +179,8 @@ text-more [] n l = absurd (omega arith)
 text-more (e ∷ before) n l = go (n == length before) refl (λ k. text-more before n k)
   where
     go : (b : Bool) → (n == length before) ≡ b → (n < length before → answers_text (prefix (n + 1) before) ≡ answers_text (prefix n before) ++ line_at n before) →
-        answers_text (prefix (n + 1) (e ∷ before)) ≡ answers_text (prefix n (e ∷ before)) ++ cond b (line_of e.event before) (line_at n before)
+        answers_text (prefix (n + 1) (e ∷ before)) ≡ answers_text (prefix n (e ∷ before))
+        ++ cond b (line_of e.event before) (line_at n before)
     go true p ih =
         let same : n ≡ length before = eqb-true n (length before) p in
         rw (lt-ltb (length before) (n + 1) (omega arith), le-ltb (length before) n (omega arith), prefix-all before n (omega arith)) refl

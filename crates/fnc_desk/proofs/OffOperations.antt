@@ -96,7 +96,8 @@ only_operation n m target total coin = record {
 
 operation-only : (n : ℕ) (a : Asked) → IsOff a → operation_of n a ≡ only_operation n a.moment a.target a.total a.coin
 operation-only n a o =
-    subst (λ (kind : Kind). operation_of n (said kind a.scope) ≡ only_operation n a.moment a.target a.total a.coin) (sym o.kind)
+    subst (λ (kind : Kind). operation_of n (said kind a.scope) ≡ only_operation n a.moment a.target a.total a.coin)
+    (sym o.kind)
     (subst (λ (scope : Scope). operation_of n (said Kind.Off scope) ≡ only_operation n a.moment a.target a.total a.coin) (sym o.scope) plainly)
   where
     said : Kind → Scope → Asked
@@ -131,7 +132,8 @@ module _ (n begin : ℕ) (target : List ℕ) (total coin m : ℕ) (xs : List Act
 -- so a request for its target would join it
 joins-only : (h : History) (m n begin : ℕ) (target : List ℕ) (total coin : ℕ) (wanted : List ℕ) →
     is_joinable h m Kind.Off wanted (only_operation n begin target total coin) ≡ bytes_eq wanted target
-joins-only h m n begin target total coin wanted = rw (never-on n begin target total coin m (acts n h)) (go (bytes_eq wanted target))
+joins-only h m n begin target total coin wanted =
+    rw (never-on n begin target total coin m (acts n h)) (go (bytes_eq wanted target))
   where
     go : (b : Bool) → (b && true) ≡ b
     go true = refl
@@ -147,7 +149,8 @@ joins-open h f m wanted o e = go (asked o.req h) refl e
     begun : (a : Asked) → IsOff a → (b : Bool) → cond b (Some (operation_of o.req a)) None ≡ Some o →
         is_joinable h m Kind.Off wanted o ≡ bytes_eq wanted o.target
     begun a k true q =
-        subst (λ (x : Operation). is_joinable h m Kind.Off wanted x ≡ bytes_eq wanted x.target) (sym (operation-only o.req a k) ∙ operation_same (operation_of o.req a) o q)
+        subst (λ (x : Operation). is_joinable h m Kind.Off wanted x ≡ bytes_eq wanted x.target)
+        (sym (operation-only o.req a k) ∙ operation_same (operation_of o.req a) o q)
         (joins-only h m o.req a.moment a.target a.total a.coin wanted)
     begun a k false q = cc
 
@@ -190,7 +193,8 @@ pub six-needed : (v : Cored) (client target : List ℕ) → IsPlainJournal v.his
     has_operation target v.history ≡ false → ask_need v (off_ask client target) only_plan ≡ 6
 six-needed v client target f d e =
     let one : HasOne v.history = one-known v.history f d in
-    ap (wanted_by v v.last (off_ask client target) only_plan) (joined-none v.history f v.last target e) ∙ rw (one.registered) refl
+    ap (wanted_by v v.last (off_ask client target) only_plan) (joined-none v.history f v.last target e)
+    ∙ rw (one.registered) refl
 
 -- a value that is there is there when it is changed
 pub some-mapped : {X Y : Type 0} (f : X → Y) (x : Option X) → is_some (option_map f x) ≡ is_some x

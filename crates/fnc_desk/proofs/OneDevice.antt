@@ -105,7 +105,8 @@ plain-known (e ∷ before) f = go e.event f.0 (plain-known before f.1)
         registration 0 (record { moment = e.moment; event = event } ∷ before) ≡ registration 0 before →
         ((w : Wanted) (g : History) → candidates_among w g (record { moment = e.moment; event = event } ∷ before) ≡ candidates_among w g before) →
         ((name : List ℕ) → current name (record { moment = e.moment; event = event } ∷ before) ≡ current name before) → HasNone before ⊎ HasOne before →
-        HasNone (record { moment = e.moment; event = event } ∷ before) ⊎ HasOne (record { moment = e.moment; event = event } ∷ before)
+        HasNone (record { moment = e.moment; event = event } ∷ before)
+        ⊎ HasOne (record { moment = e.moment; event = event } ∷ before)
     same event d r c u (inl n) = inl (same-none (record { moment = e.moment; event = event }) before d r c n)
     same event d r c u (inr n) = inr (same-one (record { moment = e.moment; event = event }) before d r c u n)
 

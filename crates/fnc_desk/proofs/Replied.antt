@@ -128,7 +128,8 @@ none-fewer {X} f r p q w (x ∷ xs) e = go (p x) refl (q x) refl e (λ k. none-f
 -- no operation is opened by a reply
 still-open : (n : ℕ) (req : Req) (answer : Answer) (g : History) (o : ℕ) → is_open o (reply n req answer ∷ g) ≡ true →
     is_open o g ≡ true
-still-open n req answer g o e = any-wider (λ r. not (is_answered r (reply n req answer ∷ g))) (λ r. not (is_answered r g)) narrower (requests o g) e
+still-open n req answer g o e =
+    any-wider (λ r. not (is_answered r (reply n req answer ∷ g))) (λ r. not (is_answered r g)) narrower (requests o g) e
   where
     narrower : (r : ℕ) → not (is_answered r (reply n req answer ∷ g)) ≡ true → not (is_answered r g) ≡ true
     narrower r e = go (r == req.0) e
@@ -144,4 +145,5 @@ none-open m rs h a target e = kept-replies (λ g. has_operation target g ≡ fal
     step : (n : ℕ) (req : Req) (answer : Answer) (g : History) → has_operation target g ≡ false →
         has_operation target (reply n req answer ∷ g) ≡ false
     step n req answer g e =
-        none-fewer (λ o. operation o g) (λ (o : Operation). bytes_eq target o.target) (λ o. is_open o (reply n req answer ∷ g)) (λ o. is_open o g) (still-open n req answer g) (operations g) e
+        none-fewer (λ o. operation o g) (λ (o : Operation). bytes_eq target o.target)
+        (λ o. is_open o (reply n req answer ∷ g)) (λ o. is_open o g) (still-open n req answer g) (operations g) e

@@ -95,7 +95,8 @@ count-append r [] b = go (b.run == r)
 count-append r (c ∷ bs) b = go (c.run == r) (count-append r bs b)
   where
     go : (t : Bool) → count r (bs ++ b ∷ []) ≡ count r bs + bit (b.run == r) →
-        cond t (count r (bs ++ b ∷ []) + 1) (count r (bs ++ b ∷ [])) ≡ cond t (count r bs + 1) (count r bs) + bit (b.run == r)
+        cond t (count r (bs ++ b ∷ []) + 1) (count r (bs ++ b ∷ [])) ≡ cond t (count r bs + 1) (count r bs)
+        + bit (b.run == r)
     go true e = omega (arith, e)
     go false e = e
 
@@ -142,7 +143,8 @@ count-kept r p (b ∷ bs) e = go (p b.run) refl (b.run == r) refl (count-kept r 
   where
     go : (t : Bool) → p b.run ≡ t → (u : Bool) → (b.run == r) ≡ u →
         count r (filter (λ (b : Begun). p b.run) bs) ≡ count r bs →
-        count r (cond t (b ∷ filter (λ (b : Begun). p b.run) bs) (filter (λ (b : Begun). p b.run) bs)) ≡ cond u (count r bs + 1) (count r bs)
+        count r (cond t (b ∷ filter (λ (b : Begun). p b.run) bs) (filter (λ (b : Begun). p b.run) bs))
+        ≡ cond u (count r bs + 1) (count r bs)
     go true k true f ih = rw f (ap (λ n. n + 1) ih)
     go true k false f ih = rw f ih
     go false k true f ih = let pass : p b.run ≡ true = ap p (eqb-true b.run r f) ∙ e in cc
@@ -163,7 +165,9 @@ alive-less : (h : History) → Lawful h → (r : ℕ) → IsTrue (is_some (start
     length (filter (λ (b : Begun). not (b.run == r)) (alive_runs h)) + 1 ≡ length (alive_runs h)
 alive-less h l r a =
     let less : r < starts h = below (λ k. fresh_start h l r k) in
-    let kept : count r (alive_runs h) ≡ count r (begun_runs h) = count-kept r (λ n. not (has_exit n h)) (begun_runs h) (and-right (is_some (started r h)) (not (has_exit r h)) a) in
+    let kept : count r (alive_runs h) ≡ count r (begun_runs h) =
+    count-kept r (λ n. not (has_exit n h)) (begun_runs h)
+    (and-right (is_some (started r h)) (not (has_exit r h)) a) in
     let one : count r (alive_runs h) ≡ 1 = kept ∙ (once h l r).known less in
     omega (arith, count-others r (alive_runs h), one)
   where
@@ -183,15 +187,20 @@ alive-less h l r a =
 -- each start makes a run alive and each exit ends one
 pub alive-counted : (h : History) → Lawful h → starts h ≡ length (alive_runs h) + exits h
 alive-counted [] l = refl
-alive-counted (e ∷ before) l = go e.event (in_order-of e.moment e.event before l.0.ordered) l.0.exits (alive-counted before l.1)
+alive-counted (e ∷ before) l =
+    go e.event (in_order-of e.moment e.event before l.0.ordered) l.0.exits (alive-counted before l.1)
   where
     go : (event : Event) → IsTrue (in_order event before) → IsTrue (exit_of event before) →
         starts before ≡ length (alive_runs before) + exits before →
         starts (record { moment = e.moment; event = event } ∷ before)
-        ≡ length (alive_runs (record { moment = e.moment; event = event } ∷ before)) + exits (record { moment = e.moment; event = event } ∷ before)
+        ≡ length (alive_runs (record { moment = e.moment; event = event } ∷ before))
+        + exits (record { moment = e.moment; event = event } ∷ before)
     go (Event.Start start_) i x ih =
-        let new : start_.run.0 ≡ starts before = eqb-true start_.run.0 (starts before) (and-left _ _ (and-left _ _ i)) in
-        let more = ap length (alive_runs-start before l.1 e.moment start_ new) ∙ length-append (alive_runs before) (record { run = start_.run.0; reg = start_.reg.0 } ∷ []) in
+        let new : start_.run.0 ≡ starts before =
+        eqb-true start_.run.0 (starts before) (and-left _ _ (and-left _ _ i)) in
+        let more =
+        ap length (alive_runs-start before l.1 e.moment start_ new)
+        ∙ length-append (alive_runs before) (record { run = start_.run.0; reg = start_.reg.0 } ∷ []) in
         omega (arith, ih, more)
     go (Event.Exit ended) i x ih =
         let fewer = ap length (alive_runs-exit before e.moment ended) in

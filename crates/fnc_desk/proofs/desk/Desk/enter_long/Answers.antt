@@ -8,10 +8,12 @@ use Rattle.fnc_desk.proofs.desk.Desk.enter_long.Goals as goal
 pub invariant_of-self : goal.invariant_of-self
 invariant_of-self c =
     let passed = c.in_err-refuse.ensures.full.advances in
-    let uncounted : inputs c.refuse.new.core.history ≡ inputs c.self.inside.core.history = advance-uncounted c.self.inside.core c.refuse.new.core _ passed in
+    let uncounted : inputs c.refuse.new.core.history ≡ inputs c.self.inside.core.history =
+    advance-uncounted c.self.inside.core c.refuse.new.core _ passed in
     (omega (arith, uncounted, c.self.invariant.0), plain-advanced c.self.inside.core c.refuse.new.core _ c.self.invariant.1 passed)
 
 pub invariant_of-self-2 : goal.invariant_of-self-2
 invariant_of-self-2 c =
-    let counted : inputs c.refuse.new.core.history ≡ inputs c.self.inside.core.history + 1 = refused-counted c.self.inside.core _ _ _ _ c.in_ok-refuse.ensures.ok in
+    let counted : inputs c.refuse.new.core.history ≡ inputs c.self.inside.core.history + 1 =
+    refused-counted c.self.inside.core _ _ _ _ c.in_ok-refuse.ensures.ok in
     (omega (arith, counted, c.saturating_add-number.ensures, c.self.invariant.0), plain-refused c.self.inside.core c.refuse.new.core _ _ _ c.self.invariant.1 c.in_ok-refuse.ensures.ok)
