@@ -68,23 +68,29 @@ name-has (b ∷ bs) h = refl
 
 text-has : (most : ℕ) (is_byte : ℕ → Bool) (text : List ℕ) → Bounds.is_text most is_byte text ≡ true →
     has_byte text ≡ true
-text-has most is_byte text h = some-has text (and_parts (nat_lt 0 (length text)) (nat_le (length text) most) (and_parts _ (list_all is_byte text) h).0).0
+text-has most is_byte text h =
+    some-has text
+    (and_parts (nat_lt 0 (length text)) (nat_le (length text) most) (and_parts _ (list_all is_byte text) h).0).0
 
 -- names of devices
 pub names-back : (names : List (List ℕ)) → list_all is_name names ≡ true → list_all Typed.are_characters names ≡ true →
     each Values.text_of (parts 44 (Spelled.names_text names)) ≡ Ok names
 names-back names b t =
-    ap (each Values.text_of) (parts-listed 44 escaped is_name Typed.are_characters (λ x h k. text-part 44 x refl (name-has x h) k) names b t)
+    ap (each Values.text_of)
+    (parts-listed 44 escaped is_name Typed.are_characters (λ x h k. text-part 44 x refl (name-has x h) k) names b t)
     ∙ each-back Values.text_of escaped is_name Typed.are_characters (λ x h k. text-back x k) names b t
 
 pub names-lack : (names : List (List ℕ)) → list_all Typed.are_characters names ≡ true →
     lacks 32 (Spelled.names_text names) ≡ true
-names-lack names t = listed-lacks 32 [] (codes ",") escaped Typed.are_characters Typed.are_characters (λ x h k. text-lacks 32 x refl k) refl refl names t t
+names-lack names t =
+    listed-lacks 32 [] (codes ",") escaped Typed.are_characters Typed.are_characters (λ x h k. text-lacks 32 x refl k)
+    refl refl names t t
 
 pub names-has : (names : List (List ℕ)) → nat_lt 0 (length names) ≡ true → list_all is_name names ≡ true →
     has_byte (Spelled.names_text names) ≡ true
 names-has [] l b = absurd cc
-names-has (x ∷ xs) l b = longer (escaped x) _ (escaped-has x (name-has x (and_parts (is_name x) (list_all is_name xs) b).0))
+names-has (x ∷ xs) l b =
+    longer (escaped x) _ (escaped-has x (name-has x (and_parts (is_name x) (list_all is_name xs) b).0))
   where
     longer : (w rest : List ℕ) → has_byte w ≡ true → has_byte (w ++ rest) ≡ true
     longer [] rest h = absurd cc
@@ -111,7 +117,8 @@ pair-lacks : (sep mark : ℕ) (p : Pair) → is_safe sep ≡ false → lacks sep
     lacks sep (escaped p.name ++ (mark ∷ []) ++ escaped p.value) ≡ true
 pair-lacks sep mark p s m t =
     let two = and_parts (Typed.are_characters p.name) (Typed.are_characters p.value) t in
-    lacks-append sep (escaped p.name ++ (mark ∷ [])) (escaped p.value) (lacks-append sep (escaped p.name) (mark ∷ []) (text-lacks sep p.name s two.0) m) (text-lacks sep p.value s two.1)
+    lacks-append sep (escaped p.name ++ (mark ∷ [])) (escaped p.value)
+    (lacks-append sep (escaped p.name) (mark ∷ []) (text-lacks sep p.name s two.0) m) (text-lacks sep p.value s two.1)
 
 has-mark : (w rest : List ℕ) (mark : ℕ) → has_byte ((w ++ (mark ∷ [])) ++ rest) ≡ true
 has-mark [] rest mark = refl
@@ -123,10 +130,13 @@ pub map-back : (pairs : List Pair) → list_all Typed.is_pair pairs ≡ true →
 map-back pairs t =
     ap (each (Values.pair_of 58))
     (parts-listed 59 Spelled.port_text Typed.is_pair Typed.is_pair (λ x h k. part-of 59 (Spelled.port_text x) (has-mark (escaped x.name) (escaped x.value) 58) (pair-lacks 59 58 x refl refl k)) pairs t t)
-    ∙ each-back (Values.pair_of 58) Spelled.port_text Typed.is_pair Typed.is_pair (λ x h k. pair-back 58 x refl k) pairs t t
+    ∙ each-back (Values.pair_of 58) Spelled.port_text Typed.is_pair Typed.is_pair (λ x h k. pair-back 58 x refl k) pairs
+    t t
 
 pub map-lacks : (pairs : List Pair) → list_all Typed.is_pair pairs ≡ true → lacks 32 (Spelled.map_text pairs) ≡ true
-map-lacks pairs t = listed-lacks 32 [] (codes ";") Spelled.port_text Typed.is_pair Typed.is_pair (λ x h k. pair-lacks 32 58 x refl refl k) refl refl pairs t t
+map-lacks pairs t =
+    listed-lacks 32 [] (codes ";") Spelled.port_text Typed.is_pair Typed.is_pair
+    (λ x h k. pair-lacks 32 58 x refl refl k) refl refl pairs t t
 
 -- own options
 pub own-part : (o : Pair) → Typed.is_pair o ≡ true → is_part 32 (Spelled.own_word o) ≡ true
@@ -134,7 +144,8 @@ own-part o t = pair-lacks 32 61 o refl refl t
 
 pub owns-back : (own : List Pair) → list_all Typed.is_pair own ≡ true →
     each Values.own_of (map Spelled.own_word own) ≡ Ok own
-owns-back own t = each-back Values.own_of Spelled.own_word Typed.is_pair Typed.is_pair (λ x h k. pair-back 61 x refl k) own t t
+owns-back own t =
+    each-back Values.own_of Spelled.own_word Typed.is_pair Typed.is_pair (λ x h k. pair-back 61 x refl k) own t t
 
 -- parameters
 flag-lacks : (b : Bool) → lacks 32 (Spelled.flag_text b) ≡ true
@@ -143,7 +154,8 @@ flag-lacks false = refl
 
 pub parameter-part : (p : Parameter) → Typed.is_parameter p ≡ true → is_part 32 (Spelled.parameter_word p) ≡ true
 parameter-part p t =
-    lacks-append 32 (escaped p.name ++ codes "=") (Spelled.flag_text p.required) (lacks-append 32 (escaped p.name) (codes "=") (text-lacks 32 p.name refl t) refl) (flag-lacks p.required)
+    lacks-append 32 (escaped p.name ++ codes "=") (Spelled.flag_text p.required)
+    (lacks-append 32 (escaped p.name) (codes "=") (text-lacks 32 p.name refl t) refl) (flag-lacks p.required)
 
 parameter-back : (p : Parameter) → Typed.is_parameter p ≡ true → Values.parameter_of (Spelled.parameter_word p) ≡ Ok p
 parameter-back p t =
@@ -156,7 +168,9 @@ parameter-back p t =
 
 pub parameters-back : (ps : List Parameter) → list_all Typed.is_parameter ps ≡ true →
     each Values.parameter_of (map Spelled.parameter_word ps) ≡ Ok ps
-parameters-back ps t = each-back Values.parameter_of Spelled.parameter_word Typed.is_parameter Typed.is_parameter (λ x h k. parameter-back x k) ps t t
+parameters-back ps t =
+    each-back Values.parameter_of Spelled.parameter_word Typed.is_parameter Typed.is_parameter
+    (λ x h k. parameter-back x k) ps t t
 
 -- delays
 time-fits : (ms : ℕ) → Bounds.is_time ms ≡ true → ms < 2 ^ 64
@@ -176,7 +190,9 @@ delay-back d b t =
 delay-lacks : (sep : ℕ) (d : Delay) → is_safe sep ≡ false → lacks sep (codes ":") ≡ true → Bounds.is_delay d ≡ true →
     Typed.is_delay d ≡ true → lacks sep (Spelled.delay_text d) ≡ true
 delay-lacks sep d s m b t =
-    lacks-append sep (escaped d.name ++ codes ":") (decimal d.ms) (lacks-append sep (escaped d.name) (codes ":") (text-lacks sep d.name s t) m) (decimal-lacks sep d.ms s (delay-time d b))
+    lacks-append sep (escaped d.name ++ codes ":") (decimal d.ms)
+    (lacks-append sep (escaped d.name) (codes ":") (text-lacks sep d.name s t) m)
+    (decimal-lacks sep d.ms s (delay-time d b))
 
 delays-have : (ds : List Delay) → nat_lt 0 (length ds) ≡ true → list_any (λ b. b == 58) (Spelled.delays_text ds) ≡ true
 delays-have [] l = absurd cc
@@ -190,7 +206,8 @@ pub base-back : (base : Base) → Bounds.is_base base ≡ true → Typed.is_base
     Values.base_of (Spelled.base_text base) ≡ Ok base
 base-back (Base.Fixed ms) b t =
     let fits = time-fits ms b in
-    rw (any-none 58 (decimal ms) (decimal-lacks 58 ms refl fits)) (step (Values.u64_of (decimal ms)) ms _ _ (u64-back ms fits) refl)
+    rw (any-none 58 (decimal ms) (decimal-lacks 58 ms refl fits))
+    (step (Values.u64_of (decimal ms)) ms _ _ (u64-back ms fits) refl)
 base-back (Base.ByNode ds) b t =
     let two = and_parts _ (list_all Bounds.is_delay ds) b in
     let lengths = and_parts (nat_lt 0 (length ds)) (nat_le (length ds) 256) two.0 in
@@ -206,7 +223,8 @@ pub base-lacks : (base : Base) → Bounds.is_base base ≡ true → Typed.is_bas
 base-lacks (Base.Fixed ms) b t = decimal-lacks 32 ms refl (time-fits ms b)
 base-lacks (Base.ByNode ds) b t =
     let two = and_parts _ (list_all Bounds.is_delay ds) b in
-    listed-lacks 32 [] (codes ";") Spelled.delay_text Bounds.is_delay Typed.is_delay (λ x h k. delay-lacks 32 x refl refl h k) refl refl ds two.1 t
+    listed-lacks 32 [] (codes ";") Spelled.delay_text Bounds.is_delay Typed.is_delay
+    (λ x h k. delay-lacks 32 x refl refl h k) refl refl ds two.1 t
 
 pub time-back : (ms : ℕ) → Bounds.is_time ms ≡ true → Values.u64_of (decimal ms) ≡ Ok ms
 time-back ms b = u64-back ms (time-fits ms b)

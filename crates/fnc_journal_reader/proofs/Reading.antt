@@ -60,7 +60,8 @@ onto-fault read sep text items EntryFault.Malformed all cut f e =
 -- nothing is left
 pub onto-end : {X : Type 0} (read : List ℕ → Result X EntryFault) (sep : ℕ) (text : List ℕ) (items : List X) (all : Result (List X) EntryFault) → text ≡ [] →
     onto items (each read (parts sep text)) ≡ all → all ≡ Ok items
-onto-end read sep text items all none e = sym e ∙ ap (λ t. onto items (each read (parts sep t))) none ∙ ap Ok (append-nil items)
+onto-end read sep text items all none e =
+    sym e ∙ ap (λ t. onto items (each read (parts sep t))) none ∙ ap Ok (append-nil items)
 
 -- a word in a list
 pub has-next : (text word : List ℕ) → IsCut 44 text →
@@ -70,7 +71,8 @@ has-next text word cut = ap (list_any (bytes_eq word)) cut.cut
 pub has-found : (text word w part : List ℕ) → IsCut 44 text → true ≡ bytes_eq w part → w ≡ word → part ≡ front 44 text →
     true ≡ has_word text word
 has-found text word w part cut same e f =
-    same ∙ ap₂ bytes_eq e f ∙ go (bytes_eq word (front 44 text)) (same ∙ ap₂ bytes_eq e f) ∙ sym (has-next text word cut)
+    same ∙ ap₂ bytes_eq e f ∙ go (bytes_eq word (front 44 text)) (same ∙ ap₂ bytes_eq e f)
+    ∙ sym (has-next text word cut)
   where
     go : (b : Bool) → true ≡ b → b ≡ (b || has_word (after 44 text) word)
     go true h = refl
@@ -79,7 +81,8 @@ has-found text word w part cut same e f =
 pub has-passed : (text word w part rest : List ℕ) → IsCut 44 text → false ≡ bytes_eq w part → w ≡ word →
     part ≡ front 44 text → rest ≡ after 44 text → has_word rest word ≡ has_word text word
 has-passed text word w part rest cut other e f g =
-    ap (λ t. has_word t word) g ∙ go (bytes_eq word (front 44 text)) (other ∙ ap₂ bytes_eq e f) ∙ sym (has-next text word cut)
+    ap (λ t. has_word t word) g ∙ go (bytes_eq word (front 44 text)) (other ∙ ap₂ bytes_eq e f)
+    ∙ sym (has-next text word cut)
   where
     go : (b : Bool) → false ≡ b → has_word (after 44 text) word ≡ (b || has_word (after 44 text) word)
     go false h = refl

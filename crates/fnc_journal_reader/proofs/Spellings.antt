@@ -67,7 +67,8 @@ all_safe text = list_all is_safe text
 abbrev reads_back : ℕ → List ℕ → Bool
 reads_back b (c ∷ []) = (c == b) && not (c == 37)
 reads_back b (percent ∷ high ∷ low ∷ []) =
-    (percent == 37) && is_ascii_hexdigit high && is_ascii_hexdigit low && not (high == 37) && not (low == 37) && (16 * digit_value high + digit_value low == b)
+    (percent == 37) && is_ascii_hexdigit high && is_ascii_hexdigit low && not (high == 37) && not (low == 37)
+    && (16 * digit_value high + digit_value low == b)
 reads_back b _ = false
 
 abbrev bytes_match : ℕ → Bool
@@ -86,7 +87,8 @@ byte_matches =
 pub all-implied : {X : Type 0} (p q : X → Bool) → ((x : X) → p x ≡ true → q x ≡ true) → (xs : List X) →
     list_all p xs ≡ true → list_all q xs ≡ true
 all-implied p q f [] h = refl
-all-implied p q f (x ∷ xs) h = let parts = and_parts (p x) (list_all p xs) h in rw (f x parts.0, all-implied p q f xs parts.1) refl
+all-implied p q f (x ∷ xs) h =
+    let parts = and_parts (p x) (list_all p xs) h in rw (f x parts.0, all-implied p q f xs parts.1) refl
 
 pub not-true : (b : Bool) → not b ≡ true → b ≡ false
 not-true true h = absurd cc
@@ -96,7 +98,9 @@ pub escaped-safe : (text : List ℕ) → are_bytes text ≡ true → list_all is
 escaped-safe [] h = refl
 escaped-safe (b ∷ bs) h =
     let parts = and_parts (nat_lt b 256) (are_bytes bs) h in
-    let one = and_parts (all_safe (escaped_byte b)) (reads_back b (escaped_byte b)) (byte_matches b (ltb-true b 256 parts.0)) in
+    let one =
+    and_parts (all_safe (escaped_byte b)) (reads_back b (escaped_byte b))
+    (byte_matches b (ltb-true b 256 parts.0)) in
     list_all-append is_safe (escaped_byte b) (escaped bs) ∙ rw (one.0, escaped-safe bs parts.1) refl
 
 spelled-plain : (b : ℕ) (rest : List ℕ) → (b == 37) ≡ false → spelled (b ∷ rest) ≡ b ∷ spelled rest
@@ -155,14 +159,18 @@ spelled-back : (text : List ℕ) → are_bytes text ≡ true → spelled (escape
 spelled-back [] h = refl
 spelled-back (b ∷ bs) h =
     let parts = and_parts (nat_lt b 256) (are_bytes bs) h in
-    let one = and_parts (all_safe (escaped_byte b)) (reads_back b (escaped_byte b)) (byte_matches b (ltb-true b 256 parts.0)) in
+    let one =
+    and_parts (all_safe (escaped_byte b)) (reads_back b (escaped_byte b))
+    (byte_matches b (ltb-true b 256 parts.0)) in
     spelled-byte b (escaped_byte b) (escaped bs) one.1 ∙ ap (λ r. b ∷ r) (spelled-back bs parts.1)
 
 formed-back : (text : List ℕ) → are_bytes text ≡ true → (place : ℕ) → malformed_from place (escaped text) ≡ None
 formed-back [] h place = refl
 formed-back (b ∷ bs) h place =
     let parts = and_parts (nat_lt b 256) (are_bytes bs) h in
-    let one = and_parts (all_safe (escaped_byte b)) (reads_back b (escaped_byte b)) (byte_matches b (ltb-true b 256 parts.0)) in
+    let one =
+    and_parts (all_safe (escaped_byte b)) (reads_back b (escaped_byte b))
+    (byte_matches b (ltb-true b 256 parts.0)) in
     formed-byte b (escaped_byte b) (escaped bs) one.1 (formed-back bs parts.1) place
 
 -- the text that was escaped is read back
@@ -250,4 +258,5 @@ digit-other d c n h = go (d == c) refl
 pub digits-differ : (ds : List ℕ) (c : ℕ) (cs : List ℕ) → is_ascii_digit c ≡ false → list_all is_ascii_digit ds ≡ true →
     bytes_eq ds (c ∷ cs) ≡ false
 digits-differ [] c cs n h = refl
-digits-differ (d ∷ ds) c cs n h = rw (digit-other d c n (and_parts (is_ascii_digit d) (list_all is_ascii_digit ds) h).0) refl
+digits-differ (d ∷ ds) c cs n h =
+    rw (digit-other d c n (and_parts (is_ascii_digit d) (list_all is_ascii_digit ds) h).0) refl

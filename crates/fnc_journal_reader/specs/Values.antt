@@ -131,7 +131,8 @@ scope_of word =
 -- an answer that is a success, and one that is none
 abbrev pub success_of : List ℕ → Result Answer EntryFault
 success_of word =
-    if bytes_eq word (codes "confirmed") then Ok Answer.Confirmed else (u8_of word >>= λ level. Ok (Answer.Passed level))
+    if bytes_eq word (codes "confirmed") then Ok Answer.Confirmed
+    else (u8_of word >>= λ level. Ok (Answer.Passed level))
 
 abbrev pub failure_of : List ℕ → Result Answer EntryFault
 failure_of word =
@@ -179,7 +180,8 @@ own_of word = pair_of 61 (drop 2 word)
 
 abbrev pub parameter_of : List ℕ → Result Parameter EntryFault
 parameter_of word =
-    text_of (front 61 (drop 2 word)) >>= λ name. Ok (record { name = name; required = flag_of (after 61 (drop 2 word)) })
+    text_of (front 61 (drop 2 word)) >>= λ name.
+    Ok (record { name = name; required = flag_of (after 61 (drop 2 word)) })
 
 -- a delay, written for all nodes or node by node
 abbrev pub base_of : List ℕ → Result Base EntryFault
