@@ -12,29 +12,34 @@ use Rattle.fnc_journal.specs.Slots.{Operation}
 use Rattle.fnc_core.specs.Cored.{Advances, Asks, Cored, Enters, IsFull, ask_event, ask_need}
 use Rattle.fnc_core.specs.declared.change.Ask.{Ask}
 use Rattle.fnc_desk.specs.Entered.{InputLacksRoom, TakesInput}
-use Rattle.fnc_desk.specs.FirstSession.{IsFirst}
+use Rattle.fnc_desk.specs.PlainJournal.{IsPlainJournal}
 use Rattle.fnc_desk.specs.Inputs.{ask_of, has_operation, request_input}
 use Rattle.fnc_desk.specs.Plain.{only_plan}
 use Rattle.fnc_desk.proofs.Entering.{lacks-known, takes-known}
 use Rattle.fnc_desk.proofs.OffOperations.{joined-none, off_ask, six-needed}
-use Rattle.fnc_desk.proofs.Replied.{devices-replied, first-replied, none-open}
+use Rattle.fnc_desk.proofs.Replied.{devices-replied, plain-replied, none-open}
 
 -- a request that the core took, with the number that came next
-pub takes-request : (old new : Cored) (m : ℕ) (req : Req) (a : Ask) (p : Plan) (client target : List ℕ) → a ≡ off_ask client target → p ≡ only_plan → IsFirst old.history → has_operation target old.history ≡ false →
+pub takes-request : (old new : Cored) (m : ℕ) (req : Req) (a : Ask) (p : Plan) (client target : List ℕ) →
+    a ≡ off_ask client target → p ≡ only_plan → IsPlainJournal old.history → has_operation target old.history ≡ false →
     old.last ≤ m → req.0 ≡ asks old.history → Asks old new m a p req → TakesInput (request_input m client target old.history) old new
 takes-request old new m req a p client target a-is p-is first free later number k =
-    takes-known (request_input m client target old.history) old new later (subst (λ (event : Event). Enters old new m event) event-is k.enters)
+    takes-known (request_input m client target old.history) old new later
+    (subst (λ (event : Event). Enters old new m event) event-is k.enters)
   where
     met : History
     met = k.enters.advance ++ old.history
 
     alone : k.lead ≡ req
-    alone = k.leads ∙ ap (λ (x : Option Operation). record { 0 = unwrap_or (option_map (λ (o : Operation). o.req) x) req.0 }) none
+    alone =
+        k.leads
+        ∙ ap (λ (x : Option Operation). record { 0 = unwrap_or (option_map (λ (o : Operation). o.req) x) req.0 }) none
       where
         none : joined met m a.kind a.target ≡ None
         none =
             ap (λ (b : Ask). joined met m b.kind b.target) a-is
-            ∙ joined-none met (first-replied m k.enters.advance old.history k.enters.at_once first) m target (none-open m k.enters.advance old.history k.enters.at_once target free)
+            ∙ joined-none met (plain-replied m k.enters.advance old.history k.enters.at_once first) m target
+            (none-open m k.enters.advance old.history k.enters.at_once target free)
 
     event-is : ask_event req k.lead a p ≡ ask_of (record { 0 = asks old.history }) client target
     event-is =
@@ -43,15 +48,17 @@ takes-request old new m req a p client target a-is p-is first free later number 
         ∙ ap (λ n. ask_of (record { 0 = n }) client target) number
 
 -- and one for which it has no room
-pub lacks-request : (old new : Cored) (m : ℕ) (a : Ask) (p : Plan) (full : Full) (client target : List ℕ) → a ≡ off_ask client target → p ≡ only_plan → IsFirst old.history → devices old.history ≡ 1 →
+pub lacks-request : (old new : Cored) (m : ℕ) (a : Ask) (p : Plan) (full : Full) (client target : List ℕ) →
+    a ≡ off_ask client target → p ≡ only_plan → IsPlainJournal old.history → devices old.history ≡ 1 →
     has_operation target old.history ≡ false → old.last ≤ m → Advances old new m → IsFull new (ask_need new a p) full → InputLacksRoom (request_input m client target old.history) old new full
 lacks-request old new m a p full client target a-is p-is first device free later k f =
-    lacks-known (request_input m client target old.history) old new full later k (subst (λ n. IsFull new n full) need-is f)
+    lacks-known (request_input m client target old.history) old new full later k
+    (subst (λ n. IsFull new n full) need-is f)
   where
     need-is : ask_need new a p ≡ 6
     need-is =
         ap₂ (ask_need new) a-is p-is
         ∙ six-needed new client target
-        (subst IsFirst (sym k.history) (first-replied m k.advance old.history k.at_once first))
+        (subst IsPlainJournal (sym k.history) (plain-replied m k.advance old.history k.at_once first))
         (ap devices k.history ∙ devices-replied m k.advance old.history k.at_once ∙ device)
         (ap (has_operation target) k.history ∙ none-open m k.advance old.history k.at_once target free)

@@ -1,5 +1,24 @@
 -- Each line that is taken gives one input entry.
-use Rattle.std.proofs.Common.{ℕ, ◌∷◌, ◌++◌, Bool, true, false, ◌≡◌, ◌+◌, ◌==◌, ◌&&◌, not, cond, nat_le, inl, inr, refl, ap, ◌∙◌}
+use Rattle.std.proofs.Common.{
+  ℕ,
+  ◌∷◌,
+  ◌++◌,
+  Bool,
+  true,
+  false,
+  ◌≡◌,
+  ◌+◌,
+  ◌==◌,
+  ◌&&◌,
+  not,
+  cond,
+  nat_le,
+  inl,
+  inr,
+  refl,
+  ap,
+  ◌∙◌,
+}
 use Rattle.fnc_journal.specs.declared.cause.Cause.{Cause}
 use Rattle.fnc_journal.specs.declared.entry.Entry.{Entry}
 use Rattle.fnc_journal.specs.declared.entry.Exit.{Exit}
@@ -21,9 +40,11 @@ called-is_input (Said.Device m name) h last n = go (nat_le last m && (devices h 
     go : (b : Bool) → is_input (cond b (device_input m name) (refused last n Cause.UnknownVerb)).event ≡ true
     go true = refl
     go false = refl
-called-is_input (Said.Ask m client target) h last n = go (nat_le last m && (devices h == 1) && not (has_operation target h))
+called-is_input (Said.Ask m client target) h last n =
+    go (nat_le last m && (devices h == 1) && not (has_operation target h))
   where
-    go : (b : Bool) → is_input (cond b (request_input m client target h) (refused last n Cause.UnknownVerb)).event ≡ true
+    go : (b : Bool) →
+        is_input (cond b (request_input m client target h) (refused last n Cause.UnknownVerb)).event ≡ true
     go true = refl
     go false = refl
 called-is_input (Said.Exit m run code) h last n = go (nat_le last m) (is_alive run h)
@@ -39,20 +60,26 @@ or-no-memory input e n i (inl k) = ap (λ (d : Entry). is_input d.event) k ∙ i
 or-no-memory input e n i (inr k) = ap (λ (d : Entry). is_input d.event) k.1
 
 -- what a line gives is an input
-pub given-is_input : (x : Happening) (h : History) (last n : ℕ) (e : Entry) → Gives x h last n e → is_input e.event ≡ true
+pub given-is_input : (x : Happening) (h : History) (last n : ℕ) (e : Entry) → Gives x h last n e →
+    is_input e.event ≡ true
 given-is_input (Happening.Line bytes) h last n e g = or-no-memory _ e n (called-is_input (said bytes) h last n) g
 given-is_input (Happening.TooLong size) h last n e g = ap (λ (d : Entry). is_input d.event) g
 given-is_input Happening.Again h last n e g = absurd g
 
 -- so there is one input more
-entered-counted : (old new : Cored) (e : Entry) → is_input e.event ≡ true → Enters old new e.moment e.event → inputs new.history ≡ inputs old.history + 1
+entered-counted : (old new : Cored) (e : Entry) → is_input e.event ≡ true → Enters old new e.moment e.event →
+    inputs new.history ≡ inputs old.history + 1
 entered-counted old new e is n =
     ap inputs n.history
     ∙ inputs-replied e.moment n.replies (e ∷ (n.advance ++ old.history)) n.answered
     ∙ rw is (ap (λ k. k + 1) (inputs-replied e.moment n.advance old.history n.at_once))
 
 pub line-counted : (x : Happening) (old new : Cored) → TakesLine x old new → inputs new.history ≡ inputs old.history + 1
-line-counted x old new t = entered-counted old new t.entry (given-is_input x (t.enters.advance ++ old.history) old.last _ t.entry t.is) t.enters
+line-counted x old new t =
+    entered-counted old new t.entry (given-is_input x (t.enters.advance ++ old.history) old.last _ t.entry t.is)
+    t.enters
 
-pub refused-counted : (old new : Cored) (m n : ℕ) (cause : Cause) → TakesInput (refused m n cause) old new → inputs new.history ≡ inputs old.history + 1
-refused-counted old new m n cause t = entered-counted old new t.entry (or-no-memory (refused m n cause) t.entry _ refl t.is) t.enters
+pub refused-counted : (old new : Cored) (m n : ℕ) (cause : Cause) → TakesInput (refused m n cause) old new →
+    inputs new.history ≡ inputs old.history + 1
+refused-counted old new m n cause t =
+    entered-counted old new t.entry (or-no-memory (refused m n cause) t.entry _ refl t.is) t.enters

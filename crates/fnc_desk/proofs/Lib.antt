@@ -1,3 +1,5 @@
+-- Proved here: each line gives the one input entry that it calls for, on a journal that stays plain, and what is
+-- printed of a journal are the lines of its entries and the counts at its end.
 pub mod OneDevice
 pub mod OffOperations
 pub mod Asking

@@ -1,5 +1,37 @@
 -- The line of an entry in a lawful journal: what the whole journal finds of its names is what was found before it.
-use Rattle.std.proofs.Common.{ap, ℕ, List, [], ◌∷◌, ◌++◌, Bool, true, false, ◌≡◌, ◌<◌, ◌+◌, ◌==◌, cond, refl, sym, ap₂, ◌∙◌, subst, Option, Some, None, IsTrue, is_some, arith, length, eqb-true, false-eqb, ltb, le-ltb, lt-ltb}
+use Rattle.std.proofs.Common.{
+  ap,
+  ℕ,
+  List,
+  [],
+  ◌∷◌,
+  ◌++◌,
+  Bool,
+  true,
+  false,
+  ◌≡◌,
+  ◌<◌,
+  ◌+◌,
+  ◌==◌,
+  cond,
+  refl,
+  sym,
+  ap₂,
+  ◌∙◌,
+  subst,
+  Option,
+  Some,
+  None,
+  IsTrue,
+  is_some,
+  arith,
+  length,
+  eqb-true,
+  false-eqb,
+  ltb,
+  le-ltb,
+  lt-ltb,
+}
 use Rattle.std.specs.Prelude.{find, option_map, option_and_then, unwrap_or}
 use Rattle.fnc_outside.specs.Writes.{AppendsPart}
 use Rattle.fnc_journal.specs.declared.definition.Registration.{Registration}
@@ -8,7 +40,18 @@ use Rattle.fnc_journal.specs.declared.event.Event.{Event}
 use Rattle.fnc_journal.specs.declared.event.Request.{Request}
 use Rattle.fnc_journal.specs.History.{History}
 use Rattle.fnc_journal.specs.Missing.{or_here}
-use Rattle.fnc_journal.specs.Found.{Asked, asked, asked_here, asks, entry_at, is_ask_of, registration, registration_here, request, requested_here}
+use Rattle.fnc_journal.specs.Found.{
+  Asked,
+  asked,
+  asked_here,
+  asks,
+  entry_at,
+  is_ask_of,
+  registration,
+  registration_here,
+  request,
+  requested_here,
+}
 use Rattle.fnc_journal.specs.Lawful.{Lawful, in_order}
 use Rattle.fnc_journal.specs.Line.{answers_text, line_at, line_of, start_line, target_of}
 use Rattle.fnc_journal.specs.Operations.{led, operation}
@@ -25,7 +68,8 @@ target_in x = option_map (λ (q : Request). q.target) x
 abbrev asked_target : Option Asked → Option (List ℕ)
 asked_target x = option_map (λ (a : Asked). a.target) x
 
-first-target : (x u : Option Request) (y v : Option Asked) → target_in x ≡ asked_target y → target_in u ≡ asked_target v →
+first-target : (x u : Option Request) (y v : Option Asked) → target_in x ≡ asked_target y →
+    target_in u ≡ asked_target v →
     target_in (or_here x u) ≡ asked_target (or_here y v)
 first-target None None None None e f = refl
 first-target None None None (Some v) e f = cc
@@ -102,32 +146,41 @@ known-more _ e h k = tt
 line-more : (event : Event) (e : Entry) (h : History) → Known event h → line_of event (e ∷ h) ≡ line_of event h
 line-more (Event.Start start) e h k =
     ap₂ (λ (x : Option Registration) (y : Option Asked). start_line start.run.0 (unwrap_or (option_map (λ (r : Registration). r.name) x) []) start.kind (unwrap_or (option_map (λ (a : Asked). a.target) y) []) start.attempt)
-    (first-stays (registration start.reg.0 h) (registration_here start.reg.0 e.event) k.0) (first-stays (asked start.req.0 h) (asked_here start.req.0 e.moment h e.event) k.1)
+    (first-stays (registration start.reg.0 h) (registration_here start.reg.0 e.event) k.0)
+    (first-stays (asked start.req.0 h) (asked_here start.req.0 e.moment h e.event) k.1)
 line-more _ e h k = refl
 
-line-found : (h : History) → Lawful h → (n : ℕ) (e : Entry) → entry_at n h ≡ Some e → Known e.event h × (line_at n h ≡ line_of e.event h)
+line-found : (h : History) → Lawful h → (n : ℕ) (e : Entry) → entry_at n h ≡ Some e →
+    Known e.event h × (line_at n h ≡ line_of e.event h)
 line-found [] l n e f = cc
 line-found (d ∷ before) l n e f = go (n == length before) f (λ k. line-found before l.1 n e k)
   where
-    go : (b : Bool) → cond b (Some d) (entry_at n before) ≡ Some e → (entry_at n before ≡ Some e → Known e.event before × (line_at n before ≡ line_of e.event before)) →
+    go : (b : Bool) → cond b (Some d) (entry_at n before) ≡ Some e →
+        (entry_at n before ≡ Some e → Known e.event before × (line_at n before ≡ line_of e.event before)) →
         Known e.event (d ∷ before) × (cond b (line_of d.event before) (line_at n before) ≡ line_of e.event (d ∷ before))
     go true f ih =
         let known = known-here d.event before (in_order-of d.moment d.event before l.0.ordered) in
         let same : d ≡ e = cc in
-        subst (λ (x : Entry). Known x.event (d ∷ before) × (line_of d.event before ≡ line_of x.event (d ∷ before))) same (known-more d.event d before known, sym (line-more d.event d before known))
-    go false f ih = let earlier = ih f in (known-more e.event d before earlier.0, earlier.1 ∙ sym (line-more e.event d before earlier.0))
+        subst (λ (x : Entry). Known x.event (d ∷ before) × (line_of d.event before ≡ line_of x.event (d ∷ before))) same
+        (known-more d.event d before known, sym (line-more d.event d before known))
+    go false f ih =
+        let earlier = ih f in
+        (known-more e.event d before earlier.0, earlier.1 ∙ sym (line-more e.event d before earlier.0))
 
 -- the line of an entry, with what the whole journal finds
-pub line-whole : (h : History) → Lawful h → (n : ℕ) (e : Entry) → entry_at n h ≡ Some e → line_at n h ≡ line_of e.event h
+pub line-whole : (h : History) → Lawful h → (n : ℕ) (e : Entry) → entry_at n h ≡ Some e →
+    line_at n h ≡ line_of e.event h
 line-whole h l n e f = (line-found h l n e f).1
 
 -- what is printed of one entry more
-pub text-more : (h : History) (n : ℕ) → n < length h → answers_text (prefix (n + 1) h) ≡ answers_text (prefix n h) ++ line_at n h
+pub text-more : (h : History) (n : ℕ) → n < length h →
+    answers_text (prefix (n + 1) h) ≡ answers_text (prefix n h) ++ line_at n h
 text-more [] n l = absurd (omega arith)
 text-more (e ∷ before) n l = go (n == length before) refl (λ k. text-more before n k)
   where
     go : (b : Bool) → (n == length before) ≡ b → (n < length before → answers_text (prefix (n + 1) before) ≡ answers_text (prefix n before) ++ line_at n before) →
-        answers_text (prefix (n + 1) (e ∷ before)) ≡ answers_text (prefix n (e ∷ before)) ++ cond b (line_of e.event before) (line_at n before)
+        answers_text (prefix (n + 1) (e ∷ before)) ≡ answers_text (prefix n (e ∷ before))
+        ++ cond b (line_of e.event before) (line_at n before)
     go true p ih =
         let same : n ≡ length before = eqb-true n (length before) p in
         rw (lt-ltb (length before) (n + 1) (omega arith), le-ltb (length before) n (omega arith), prefix-all before n (omega arith)) refl
@@ -137,11 +190,13 @@ text-more (e ∷ before) n l = go (n == length before) refl (λ k. text-more bef
         rw (le-ltb (length before) (n + 1) (omega arith), le-ltb (length before) n (omega arith)) (ih less)
 
 -- a part of what is printed of a prefix is a part of what is printed of all
-pub text-front : (start now : Option (List ℕ)) (h : History) (n : ℕ) → AppendsPart start now (answers_text (prefix n h)) → AppendsPart start now (answers_text h)
+pub text-front : (start now : Option (List ℕ)) (h : History) (n : ℕ) →
+    AppendsPart start now (answers_text (prefix n h)) → AppendsPart start now (answers_text h)
 text-front start now [] n p = p
 text-front start now (e ∷ before) n p = go (ltb (length before) n) p (λ q. text-front start now before n q)
   where
-    go : (b : Bool) → AppendsPart start now (answers_text (cond b (e ∷ before) (prefix n before))) → (AppendsPart start now (answers_text (prefix n before)) → AppendsPart start now (answers_text before)) →
+    go : (b : Bool) → AppendsPart start now (answers_text (cond b (e ∷ before) (prefix n before))) →
+        (AppendsPart start now (answers_text (prefix n before)) → AppendsPart start now (answers_text before)) →
         AppendsPart start now (answers_text before ++ line_of e.event before)
     go true p ih = p
     go false p ih = part-of_front start now (answers_text before) (line_of e.event before) (ih p)

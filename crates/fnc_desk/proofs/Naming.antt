@@ -1,5 +1,27 @@
--- A name of the first session is ASCII, so it is a text.
-use Rattle.std.proofs.Common.{ℕ, List, [], ◌∷◌, Bool, true, false, ◌≡◌, ◌≤◌, ◌<◌, refl, sym, ap, ◌∙◌, arith, le-leb, nat_le, Some, zero, suc, ne_eqb}
+-- A name of a line is ASCII, so it is a text.
+use Rattle.std.proofs.Common.{
+  ℕ,
+  List,
+  [],
+  ◌∷◌,
+  Bool,
+  true,
+  false,
+  ◌≡◌,
+  ◌≤◌,
+  ◌<◌,
+  refl,
+  sym,
+  ap,
+  ◌∙◌,
+  arith,
+  le-leb,
+  nat_le,
+  Some,
+  zero,
+  suc,
+  ne_eqb,
+}
 use Rattle.std.specs.Prelude.{Result, Ok, Err, MatchResult, option_map}
 use Rattle.std.specs.Result.{result_ok}
 use Rattle.std.specs.List.{list_all}

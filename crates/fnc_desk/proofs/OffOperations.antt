@@ -1,11 +1,36 @@
--- The operations of a first session: each has one slot on the only device, and a request for its target would join it.
-use Rattle.std.proofs.Common.{ℕ, List, [], ◌∷◌, Bool, true, false, ◌≡◌, ◌+◌, ◌==◌, ◌&&◌, ◌||◌, not, cond, refl, ap, sym, ◌∙◌, subst, Option, Some, None, is_some}
+-- The operations of a plain journal: each has one slot on the only device, and a request for its target would join it.
+use Rattle.std.proofs.Common.{
+  ℕ,
+  List,
+  [],
+  ◌∷◌,
+  Bool,
+  true,
+  false,
+  ◌≡◌,
+  ◌+◌,
+  ◌==◌,
+  ◌&&◌,
+  ◌||◌,
+  not,
+  cond,
+  refl,
+  ap,
+  sym,
+  ◌∙◌,
+  subst,
+  Option,
+  Some,
+  None,
+  is_some,
+}
 use Rattle.std.specs.Prelude.{bytes_eq, find, option_and_then, option_map, unwrap_or}
 use Rattle.std.specs.List.{list_any}
 use Rattle.std.specs.Option.{option_or}
 use Rattle.fnc_journal.specs.declared.event.Event.{Event}
 use Rattle.fnc_journal.specs.declared.entry.Kind.{Kind}
 use Rattle.fnc_journal.specs.declared.entry.Scope.{Scope}
+use Rattle.fnc_journal.specs.declared.limits.TheConstants.{DEFAULT_TOTAL}
 use Rattle.fnc_journal.specs.History.{History}
 use Rattle.fnc_journal.specs.Missing.{or_here}
 use Rattle.fnc_journal.specs.Found.{Asked, asked, asked_here, devices}
@@ -17,7 +42,7 @@ use Rattle.fnc_journal.proofs.Each.{any-same, each-map}
 use Rattle.fnc_journal.proofs.Closing.{open-found}
 use Rattle.fnc_core.specs.Cored.{Cored, ask_need, wanted_by}
 use Rattle.fnc_core.specs.declared.change.Ask.{Ask}
-use Rattle.fnc_desk.specs.FirstSession.{IsFirst, IsFirstEntry}
+use Rattle.fnc_desk.specs.PlainJournal.{IsPlainJournal, IsPlainEntry}
 use Rattle.fnc_desk.specs.Inputs.{has_operation}
 use Rattle.fnc_desk.specs.Plain.{only_plan}
 use Rattle.fnc_desk.proofs.OneDevice.{HasOne, one-known, only_device}
@@ -32,11 +57,13 @@ some_same : (a b : Asked) → ◌≡◌ {A = Option Asked} (Some a) (Some b) →
 some_same a b e = cc
 
 -- every request is one
-off-asked : (h : History) → IsFirst h → (n : ℕ) (a : Asked) → asked n h ≡ Some a → IsOff a
+off-asked : (h : History) → IsPlainJournal h → (n : ℕ) (a : Asked) → asked n h ≡ Some a → IsOff a
 off-asked [] f n a e = cc
 off-asked (e ∷ before) f n a q = go e.event f.0 q (λ p. off-asked before f.1 n a p)
   where
-    go : (event : Event) → IsFirstEntry event before → or_here (asked n before) (asked_here n e.moment before event) ≡ Some a → (asked n before ≡ Some a → IsOff a) → IsOff a
+    go : (event : Event) → IsPlainEntry event before →
+        or_here (asked n before) (asked_here n e.moment before event) ≡ Some a → (asked n before ≡ Some a → IsOff a) →
+        IsOff a
     go (Event.Ask ask) k q ih = here (asked n before) (n == ask.req.0) q ih
       where
         said : Asked
@@ -45,7 +72,8 @@ off-asked (e ∷ before) f n a q = go e.event f.0 q (λ p. off-asked before f.1 
         new : IsOff said
         new = record { kind = k.is_off; scope = k.no_levels; one = one-known before f.1 k.device }
 
-        here : (x : Option Asked) (b : Bool) → or_here x (cond b (Some said) None) ≡ Some a → (x ≡ Some a → IsOff a) → IsOff a
+        here : (x : Option Asked) (b : Bool) → or_here x (cond b (Some said) None) ≡ Some a → (x ≡ Some a → IsOff a) →
+            IsOff a
         here None true q ih = subst IsOff (some_same said a q) new
         here None false q ih = cc
         here (Some y) true q ih = ih q
@@ -68,7 +96,8 @@ only_operation n m target total coin = record {
 
 operation-only : (n : ℕ) (a : Asked) → IsOff a → operation_of n a ≡ only_operation n a.moment a.target a.total a.coin
 operation-only n a o =
-    subst (λ (kind : Kind). operation_of n (said kind a.scope) ≡ only_operation n a.moment a.target a.total a.coin) (sym o.kind)
+    subst (λ (kind : Kind). operation_of n (said kind a.scope) ≡ only_operation n a.moment a.target a.total a.coin)
+    (sym o.kind)
     (subst (λ (scope : Scope). operation_of n (said Kind.Off scope) ≡ only_operation n a.moment a.target a.total a.coin) (sym o.scope) plainly)
   where
     said : Kind → Scope → Asked
@@ -91,7 +120,8 @@ module _ (n begin : ℕ) (target : List ℕ) (total coin m : ℕ) (xs : List Act
   never-on : unwrap_or (option_map is_on (standing mine m xs)) false ≡ false
   never-on = go (is_lost_by mine m xs only_task)
     where
-      in-level : (c : Bool) → unwrap_or (option_map is_on (option_or (cond (not c) (Some only_task) None) None)) false ≡ false
+      in-level : (c : Bool) →
+          unwrap_or (option_map is_on (option_or (cond (not c) (Some only_task) None) None)) false ≡ false
       in-level true = refl
       in-level false = refl
 
@@ -100,8 +130,10 @@ module _ (n begin : ℕ) (target : List ℕ) (total coin m : ℕ) (xs : List Act
       go false = in-level (confirmed only_task mine.over xs)
 
 -- so a request for its target would join it
-joins-only : (h : History) (m n begin : ℕ) (target : List ℕ) (total coin : ℕ) (wanted : List ℕ) → is_joinable h m Kind.Off wanted (only_operation n begin target total coin) ≡ bytes_eq wanted target
-joins-only h m n begin target total coin wanted = rw (never-on n begin target total coin m (acts n h)) (go (bytes_eq wanted target))
+joins-only : (h : History) (m n begin : ℕ) (target : List ℕ) (total coin : ℕ) (wanted : List ℕ) →
+    is_joinable h m Kind.Off wanted (only_operation n begin target total coin) ≡ bytes_eq wanted target
+joins-only h m n begin target total coin wanted =
+    rw (never-on n begin target total coin m (acts n h)) (go (bytes_eq wanted target))
   where
     go : (b : Bool) → (b && true) ≡ b
     go true = refl
@@ -110,16 +142,20 @@ joins-only h m n begin target total coin wanted = rw (never-on n begin target to
 operation_same : (a b : Operation) → ◌≡◌ {A = Option Operation} (Some a) (Some b) → a ≡ b
 operation_same a b e = cc
 
-joins-open : (h : History) → IsFirst h → (m : ℕ) (wanted : List ℕ) (o : Operation) → operation o.req h ≡ Some o → is_joinable h m Kind.Off wanted o ≡ bytes_eq wanted o.target
+joins-open : (h : History) → IsPlainJournal h → (m : ℕ) (wanted : List ℕ) (o : Operation) → operation o.req h ≡ Some o →
+    is_joinable h m Kind.Off wanted o ≡ bytes_eq wanted o.target
 joins-open h f m wanted o e = go (asked o.req h) refl e
   where
-    begun : (a : Asked) → IsOff a → (b : Bool) → cond b (Some (operation_of o.req a)) None ≡ Some o → is_joinable h m Kind.Off wanted o ≡ bytes_eq wanted o.target
+    begun : (a : Asked) → IsOff a → (b : Bool) → cond b (Some (operation_of o.req a)) None ≡ Some o →
+        is_joinable h m Kind.Off wanted o ≡ bytes_eq wanted o.target
     begun a k true q =
-        subst (λ (x : Operation). is_joinable h m Kind.Off wanted x ≡ bytes_eq wanted x.target) (sym (operation-only o.req a k) ∙ operation_same (operation_of o.req a) o q)
+        subst (λ (x : Operation). is_joinable h m Kind.Off wanted x ≡ bytes_eq wanted x.target)
+        (sym (operation-only o.req a k) ∙ operation_same (operation_of o.req a) o q)
         (joins-only h m o.req a.moment a.target a.total a.coin wanted)
     begun a k false q = cc
 
-    go : (x : Option Asked) → asked o.req h ≡ x → option_and_then (led o.req) x ≡ Some o → is_joinable h m Kind.Off wanted o ≡ bytes_eq wanted o.target
+    go : (x : Option Asked) → asked o.req h ≡ x → option_and_then (led o.req) x ≡ Some o →
+        is_joinable h m Kind.Off wanted o ≡ bytes_eq wanted o.target
     go None p q = cc
     go (Some a) p q = begun a (off-asked h f o.req a p) (o.req == a.lead) q
 
@@ -133,13 +169,15 @@ found-any {X} p (x ∷ xs) = go (p x) (found-any p xs)
     go false e = e
 
 -- a request joins an operation exactly where one is open for its target
-pub joined-open : (h : History) → IsFirst h → (m : ℕ) (target : List ℕ) → is_some (joined h m Kind.Off target) ≡ has_operation target h
+pub joined-open : (h : History) → IsPlainJournal h → (m : ℕ) (target : List ℕ) →
+    is_some (joined h m Kind.Off target) ≡ has_operation target h
 joined-open h f m target =
     found-any (is_joinable h m Kind.Off target) (open_operations h)
     ∙ any-same (is_joinable h m Kind.Off target) (λ (o : Operation). bytes_eq target o.target) (open_operations h)
     (each-map _ _ (open_operations h) (λ o e. joins-open h f m target o e) (open-found h))
 
-pub joined-none : (h : History) → IsFirst h → (m : ℕ) (target : List ℕ) → has_operation target h ≡ false → joined h m Kind.Off target ≡ None
+pub joined-none : (h : History) → IsPlainJournal h → (m : ℕ) (target : List ℕ) → has_operation target h ≡ false →
+    joined h m Kind.Off target ≡ None
 joined-none h f m target e = go (joined h m Kind.Off target) (joined-open h f m target ∙ e)
   where
     go : (x : Option Operation) → is_some x ≡ false → x ≡ None
@@ -148,13 +186,15 @@ joined-none h f m target e = go (joined h m Kind.Off target) (joined-open h f m 
 
 -- what a client asks for: that a target be switched off
 abbrev pub off_ask : List ℕ → List ℕ → Ask
-off_ask client target = record { client = client; kind = Kind.Off; target = target; total = 600_000; coin = 0 }
+off_ask client target = record { client = client; kind = Kind.Off; target = target; total = DEFAULT_TOTAL; coin = 0 }
 
 -- such a request needs six entries
-pub six-needed : (v : Cored) (client target : List ℕ) → IsFirst v.history → devices v.history ≡ 1 → has_operation target v.history ≡ false → ask_need v (off_ask client target) only_plan ≡ 6
+pub six-needed : (v : Cored) (client target : List ℕ) → IsPlainJournal v.history → devices v.history ≡ 1 →
+    has_operation target v.history ≡ false → ask_need v (off_ask client target) only_plan ≡ 6
 six-needed v client target f d e =
     let one : HasOne v.history = one-known v.history f d in
-    ap (wanted_by v v.last (off_ask client target) only_plan) (joined-none v.history f v.last target e) ∙ rw (one.registered) refl
+    ap (wanted_by v v.last (off_ask client target) only_plan) (joined-none v.history f v.last target e)
+    ∙ rw (one.registered) refl
 
 -- a value that is there is there when it is changed
 pub some-mapped : {X Y : Type 0} (f : X → Y) (x : Option X) → is_some (option_map f x) ≡ is_some x

@@ -1,5 +1,5 @@
 pub mod Plain
-pub mod FirstSession
+pub mod PlainJournal
 pub mod Said
 pub mod Inputs
 pub mod Reading

@@ -28,7 +28,8 @@ last_come h = unwrap_or (last_input h) 0
 abbrev pub IsOfLine : Bool → List Happening → Entry → History → (List Happening → Type 0) → Type 0
 IsOfLine false lines e before Rest = Rest lines
 IsOfLine true [] e before Rest = ⊥
-IsOfLine true (line ∷ lines) e before Rest = Gives line before (last_come before) (line_number (length lines)) e × Rest lines
+IsOfLine true (line ∷ lines) e before Rest =
+    Gives line before (last_come before) (line_number (length lines)) e × Rest lines
 
 -- the inputs of a journal are those of these lines, the newest first in both
 abbrev pub AreLines : History → List Happening → Type 0

@@ -1,8 +1,28 @@
--- What a line says, in the language of the first session: words separated by spaces, of which the first is the
--- moment, in milliseconds, and the second the verb.
-use Rattle.std.specs.Prelude.{ℕ, List, [], ◌∷◌, ◌^◌, ◌-◌, Bool, ◌||◌, ◌&&◌, ◌==◌, if◌then◌else◌, nat_le, length, Option, Some, None, codes, bytes_eq}
+-- What a line says: words separated by spaces, of which the first is the moment, in milliseconds, and the second the
+-- verb.
+use Rattle.std.specs.Prelude.{
+  ℕ,
+  List,
+  [],
+  ◌∷◌,
+  ◌^◌,
+  ◌-◌,
+  Bool,
+  ◌||◌,
+  ◌&&◌,
+  ◌==◌,
+  if◌then◌else◌,
+  nat_le,
+  length,
+  Option,
+  Some,
+  None,
+  codes,
+  bytes_eq,
+}
 use Rattle.std.specs.List.{list_all}
 use Rattle.std.specs.Char.{is_ascii_alphanumeric}
+use Rattle.fnc_journal.specs.declared.limits.TheConstants.{LONGEST_NAME}
 use Rattle.fnc_text.specs.Digits.{number}
 use Rattle.fnc_text.specs.Words.{words}
 
@@ -18,11 +38,11 @@ pub data Said : Type 0 where
 abbrev pub is_name_byte : ℕ → Bool
 is_name_byte b = is_ascii_alphanumeric b || b == 45 || b == 46 || b == 95 || b == 126
 
--- a name has at most 255 bytes; a word has at least one
+-- a name is no longer than this; a word has at least one byte
 abbrev pub is_name : List ℕ → Bool
-is_name word = nat_le (length word) 255 && list_all is_name_byte word
+is_name word = nat_le (length word) LONGEST_NAME && list_all is_name_byte word
 
--- the last moment of a first session: one minute has not passed
+-- the last moment of a session: one minute has not passed
 abbrev pub last_moment : ℕ
 last_moment = 59_999
 

@@ -8,6 +8,7 @@ ghost use Rattle.fnc_desk.specs.Entered.{TakesLine, LacksRoom};
 
 use crate::input::{enter_line, refuse};
 use fnc_core::{Core, Started};
+use fnc_journal::limits::{GREATEST_JOURNAL, LEAST_JOURNAL};
 use fnc_journal::{Cause, Full, Journal, NoMemory};
 use std::alloc::Global;
 use std::marker::Model;
@@ -23,21 +24,21 @@ pub struct Desk {
 impl Model for Desk {
     ghost use Rattle.std.specs.Prelude.{◌≡◌, ◌-◌, ◌^◌, min};
     ghost use Rattle.fnc_core.specs.Cored.{Cored};
-    ghost use Rattle.fnc_desk.specs.FirstSession.{IsFirst};
+    ghost use Rattle.fnc_desk.specs.PlainJournal.{IsPlainJournal};
     ghost use Rattle.fnc_desk.specs.Inputs.{inputs};
 
     ghost Value = { Cored };
 
     ghost view = { λ d. d.core };
 
-    ghost invariant = { λ d. (d.lines ≡ min (inputs d.core.history) (2 ^ 32 - 1)) × IsFirst d.core.history };
+    ghost invariant = { λ d. (d.lines ≡ min (inputs d.core.history) (2 ^ 32 - 1)) × IsPlainJournal d.core.history };
 }
 
 impl Desk {
     /// A desk with an empty journal that may have `limit` entries.
     pub fn with_limit(alloc: Global, limit: u32) -> Result<Desk, NoMemory>
-        requires least { 16_384 ≤ limit }
-        requires most { limit ≤ 1_048_576 }
+        requires least { LEAST_JOURNAL ≤ limit }
+        requires most { limit ≤ GREATEST_JOURNAL }
         ensures history { IfOk result (λ d. d.history ≡ []) }
         ensures last { IfOk result (λ d. d.last ≡ 0) }
         ensures limit { IfOk result (λ d. d.limit ≡ limit) }

@@ -1,13 +1,13 @@
 // What a line that was read calls for: the input that it gives, and how that enters the core.
 
 ghost use Rattle.std.specs.Bool.{OnTrue, OnFalse};
-ghost use Rattle.std.specs.Prelude.{◌≡◌, ◌≤◌, ◌^◌, ◌==◌, ◌&&◌, not, nat_le, OnOk, IfErr, false};
+ghost use Rattle.std.specs.Prelude.{◌≡◌, ◌≤◌, ◌==◌, ◌&&◌, not, nat_le, OnOk, IfErr, false};
 ghost use Rattle.fnc_journal.specs.declared.cause.Cause.{Cause};
 ghost use Rattle.fnc_journal.specs.declared.entry.Kind.{Kind};
 ghost use Rattle.fnc_journal.specs.Found.{devices};
 ghost use Rattle.fnc_outside.specs.Events.{Happening};
 ghost use Rattle.fnc_desk.specs.Entered.{TakesInput, InputLacksRoom, TakesLine, LacksRoom, next_line};
-ghost use Rattle.fnc_desk.specs.FirstSession.{IsFirst};
+ghost use Rattle.fnc_desk.specs.PlainJournal.{IsPlainJournal};
 ghost use Rattle.fnc_desk.specs.Said.{Said};
 ghost use Rattle.fnc_desk.specs.Inputs.{device_input, exit_input, has_operation, input_of, refused, request_input};
 ghost use Rattle.fnc_desk.specs.Reading.{IsEarly, meant};
@@ -15,17 +15,15 @@ ghost use Rattle.fnc_desk.specs.Reading.{IsEarly, meant};
 use crate::line::{Line, read_line};
 use crate::plain::{only_plan, registration};
 use fnc_core::{Ask, AskRefusal, Change, Core, UnknownRun};
+use fnc_journal::limits::{DEFAULT_TOTAL, GREATEST_MOMENT};
 use fnc_journal::{Cause, Exit, Full, Kind, NoMemory, Reg, Run, Text};
 use std::alloc::Global;
-
-/// The total time of a request, in milliseconds: ten minutes.
-const TOTAL: u64 = 600_000;
 
 /// Refuses the line of a number, for a cause.
 pub(crate) fn refuse(core: &mut Core, line: u32, moment: u64, cause: Cause) -> Result<(), Full>
     requires number { line ≡ next_line core.old }
     requires later { core.old.last ≤ moment }
-    requires early { moment ≤ 10 ^ 15 }
+    requires early { moment ≤ GREATEST_MOMENT }
     ensures ok { OnOk result (TakesInput (refused moment line cause) core.old core.new) }
     ensures full { IfErr result (InputLacksRoom (refused moment line cause) core.old core.new) }
 {
@@ -44,7 +42,7 @@ fn misunderstood(core: &mut Core, line: u32) -> Result<(), Full>
 
 /// Whether the device is registered.
 fn has_device(core: &Core) -> bool
-    requires { IsFirst core.now.history }
+    requires { IsPlainJournal core.now.history }
     ensures yes { OnTrue result (devices core.now.history ≡ 1) }
     ensures no { OnFalse result (devices core.now.history ≡ 0) }
 {
@@ -53,7 +51,7 @@ fn has_device(core: &Core) -> bool
 
 /// Whether a device may be registered: there is none yet.
 fn takes_device(core: &Core, moment: u64) -> bool
-    requires { IsFirst core.now.history }
+    requires { IsPlainJournal core.now.history }
     ensures { result ≡ nat_le core.now.last moment && (devices core.now.history == 0) }
 {
     core.last() <= moment && !has_device(core)
@@ -62,7 +60,7 @@ fn takes_device(core: &Core, moment: u64) -> bool
 fn register(core: &mut Core, alloc: Global, line: u32, moment: u64, name: &str) -> Result<(), Full>
     requires number { line ≡ next_line core.old }
     requires later { core.old.last ≤ moment }
-    requires early { moment ≤ 10 ^ 15 }
+    requires early { moment ≤ GREATEST_MOMENT }
     requires first { devices core.old.history ≡ 0 }
     ensures ok { OnOk result (TakesInput (device_input moment name.now) core.old core.new) }
     ensures full { IfErr result (InputLacksRoom (device_input moment name.now) core.old core.new) }
@@ -75,11 +73,13 @@ fn register(core: &mut Core, alloc: Global, line: u32, moment: u64, name: &str) 
 
 /// Enters `device NAME`.
 fn device(core: &mut Core, alloc: Global, line: u32, moment: u64, name: &str) -> Result<(), Full>
-    requires session { IsFirst core.old.history }
+    requires session { IsPlainJournal core.old.history }
     requires number { line ≡ next_line core.old }
-    requires early { moment ≤ 10 ^ 15 }
-    ensures ok { OnOk result (TakesInput (input_of (Said.Device moment name.now) core.old.history core.old.last line) core.old core.new) }
-    ensures full { IfErr result (InputLacksRoom (input_of (Said.Device moment name.now) core.old.history core.old.last line) core.old core.new) }
+    requires early { moment ≤ GREATEST_MOMENT }
+    ensures ok { OnOk result (TakesInput (input_of (Said.Device moment name.now) core.old.history core.old.last line)
+        core.old core.new) }
+    ensures full { IfErr result (InputLacksRoom
+        (input_of (Said.Device moment name.now) core.old.history core.old.last line) core.old core.new) }
 {
     if takes_device(core, moment) {
         register(core, alloc, line, moment, name)
@@ -90,7 +90,7 @@ fn device(core: &mut Core, alloc: Global, line: u32, moment: u64, name: &str) ->
 
 /// Whether an operation for the target is open, which a request for it would join.
 fn has_target(core: &Core, target: &str) -> bool
-    requires { IsFirst core.now.history }
+    requires { IsPlainJournal core.now.history }
     ensures { result ≡ has_operation target.now core.now.history }
 {
     core.joinable(target, Kind::Off).is_some()
@@ -98,21 +98,22 @@ fn has_target(core: &Core, target: &str) -> bool
 
 /// Whether a target may be asked for: there is a device, and no operation for the target is open.
 fn takes_request(core: &Core, moment: u64, target: &str) -> bool
-    requires { IsFirst core.now.history }
-    ensures { result ≡ nat_le core.now.last moment && (devices core.now.history == 1) && not (has_operation target.now core.now.history) }
+    requires { IsPlainJournal core.now.history }
+    ensures { result ≡ nat_le core.now.last moment && (devices core.now.history == 1)
+        && not (has_operation target.now core.now.history) }
 {
     core.last() <= moment && has_device(core) && !has_target(core, target)
 }
 
 /// What a client asks for: that a target be switched off.
 fn off(client: Text, target: Text) -> Ask
-    ensures { result ≡ record { client = client; kind = Kind.Off; target = target; total = 600_000; coin = 0 } }
+    ensures { result ≡ record { client = client; kind = Kind.Off; target = target; total = DEFAULT_TOTAL; coin = 0 } }
 {
     Ask {
         client,
         kind: Kind::Off,
         target,
-        total: TOTAL,
+        total: DEFAULT_TOTAL,
         coin: 0,
     }
 }
@@ -125,14 +126,16 @@ fn begin(
     client: &str,
     target: &str,
 ) -> Result<(), Full>
-    requires session { IsFirst core.old.history }
+    requires session { IsPlainJournal core.old.history }
     requires number { line ≡ next_line core.old }
     requires later { core.old.last ≤ moment }
-    requires early { moment ≤ 10 ^ 15 }
+    requires early { moment ≤ GREATEST_MOMENT }
     requires device { devices core.old.history ≡ 1 }
     requires free { has_operation target.now core.old.history ≡ false }
-    ensures ok { OnOk result (TakesInput (request_input moment client.now target.now core.old.history) core.old core.new) }
-    ensures full { IfErr result (InputLacksRoom (request_input moment client.now target.now core.old.history) core.old core.new) }
+    ensures ok { OnOk result (TakesInput (request_input moment client.now target.now core.old.history)
+        core.old core.new) }
+    ensures full { IfErr result (InputLacksRoom (request_input moment client.now target.now core.old.history)
+        core.old core.new) }
 {
     let (Ok(client), Ok(target), Ok(plan)) = (
         Text::new(alloc, client),
@@ -157,11 +160,13 @@ fn ask(
     client: &str,
     target: &str,
 ) -> Result<(), Full>
-    requires session { IsFirst core.old.history }
+    requires session { IsPlainJournal core.old.history }
     requires number { line ≡ next_line core.old }
-    requires early { moment ≤ 10 ^ 15 }
-    ensures ok { OnOk result (TakesInput (input_of (Said.Ask moment client.now target.now) core.old.history core.old.last line) core.old core.new) }
-    ensures full { IfErr result (InputLacksRoom (input_of (Said.Ask moment client.now target.now) core.old.history core.old.last line) core.old core.new) }
+    requires early { moment ≤ GREATEST_MOMENT }
+    ensures ok { OnOk result (TakesInput
+        (input_of (Said.Ask moment client.now target.now) core.old.history core.old.last line) core.old core.new) }
+    ensures full { IfErr result (InputLacksRoom
+        (input_of (Said.Ask moment client.now target.now) core.old.history core.old.last line) core.old core.new) }
 {
     if takes_request(core, moment, target) {
         begin(core, alloc, line, moment, client, target)
@@ -173,9 +178,10 @@ fn ask(
 fn end(core: &mut Core, line: u32, moment: u64, run: Run, code: u8) -> Result<(), Full>
     requires number { line ≡ next_line core.old }
     requires later { core.old.last ≤ moment }
-    requires early { moment ≤ 10 ^ 15 }
+    requires early { moment ≤ GREATEST_MOMENT }
     ensures ok { OnOk result (TakesInput (exit_input moment run.0 code core.old.history line) core.old core.new) }
-    ensures full { IfErr result (InputLacksRoom (exit_input moment run.0 code core.old.history line) core.old core.new) }
+    ensures full { IfErr result (InputLacksRoom (exit_input moment run.0 code core.old.history line)
+        core.old core.new) }
 {
     match core.exit(moment, run, Exit::Code(code), false) {
         Ok(()) => Ok(()),
@@ -186,9 +192,11 @@ fn end(core: &mut Core, line: u32, moment: u64, run: Run, code: u8) -> Result<()
 /// Enters `exit RUN CODE`.
 fn exit(core: &mut Core, line: u32, moment: u64, run: Run, code: u8) -> Result<(), Full>
     requires number { line ≡ next_line core.old }
-    requires early { moment ≤ 10 ^ 15 }
-    ensures ok { OnOk result (TakesInput (input_of (Said.Exit moment run.0 code) core.old.history core.old.last line) core.old core.new) }
-    ensures full { IfErr result (InputLacksRoom (input_of (Said.Exit moment run.0 code) core.old.history core.old.last line) core.old core.new) }
+    requires early { moment ≤ GREATEST_MOMENT }
+    ensures ok { OnOk result (TakesInput (input_of (Said.Exit moment run.0 code) core.old.history core.old.last line)
+        core.old core.new) }
+    ensures full { IfErr result (InputLacksRoom
+        (input_of (Said.Exit moment run.0 code) core.old.history core.old.last line) core.old core.new) }
 {
     if core.last() <= moment {
         end(core, line, moment, run, code)
@@ -199,11 +207,13 @@ fn exit(core: &mut Core, line: u32, moment: u64, run: Run, code: u8) -> Result<(
 
 /// Enters the input that a line calls for which was read.
 fn understand(core: &mut Core, alloc: Global, line: u32, said: Line<'_>) -> Result<(), Full>
-    requires session { IsFirst core.old.history }
+    requires session { IsPlainJournal core.old.history }
     requires number { line ≡ next_line core.old }
     requires early { IsEarly said }
-    ensures ok { OnOk result (TakesInput (input_of (meant said.entry) core.old.history core.old.last line) core.old core.new) }
-    ensures full { IfErr result (InputLacksRoom (input_of (meant said.entry) core.old.history core.old.last line) core.old core.new) }
+    ensures ok { OnOk result (TakesInput (input_of (meant said.entry) core.old.history core.old.last line)
+        core.old core.new) }
+    ensures full { IfErr result (InputLacksRoom (input_of (meant said.entry) core.old.history core.old.last line)
+        core.old core.new) }
 {
     match said {
         Line::Device { moment, name } => device(core, alloc, line, moment, name),
@@ -224,7 +234,7 @@ pub(crate) fn enter_line(
     number: u32,
     line: &[u8],
 ) -> Result<(), Full>
-    requires session { IsFirst core.old.history }
+    requires session { IsPlainJournal core.old.history }
     requires number { number ≡ next_line core.old }
     ensures ok { OnOk result (TakesLine (Happening.Line line.now) core.old core.new) }
     ensures full { IfErr result (LacksRoom (Happening.Line line.now) core.old core.new) }

@@ -6,15 +6,13 @@ ghost use Rattle.fnc_desk.specs.Said as Said;
 ghost use Rattle.fnc_desk.specs.Reading.{IsEarly, first, after, is_over, name_in, number_in, meant, meant_or_other};
 
 use fnc_journal::Run;
+use fnc_journal::limits::LONGEST_NAME;
 use fnc_text::{next_word, read_number};
 use std::marker::Model;
 use std::str::from_utf8;
 
 /// The last moment of a session, in milliseconds: one minute has not passed.
 const LAST_MOMENT: u64 = 59_999;
-
-/// The longest name, in bytes.
-const LONGEST_NAME: usize = 255;
 
 /// What a line says: a device is there, a client asks that a target be switched off, or a run has ended
 /// with an exit code. Any other line says nothing that is understood.

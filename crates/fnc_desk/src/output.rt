@@ -79,7 +79,8 @@ fn print_start<K: Sink>(journal: &Journal, start: &Start, sink: &mut K) -> Resul
 /// Prints the line of a reply.
 fn print_reply<K: Sink>(reply: &Reply, sink: &mut K) -> Result<(), SinkFailed>
     ensures ok { OnOk result (Gains (K.held sink.old) (K.held sink.new) (Line.line_of (Event.Reply reply.now) [])) }
-    ensures err { OnErr result (AppendsPart (K.held sink.old) (K.held sink.new) (Line.line_of (Event.Reply reply.now) [])) }
+    ensures err { OnErr result (AppendsPart (K.held sink.old) (K.held sink.new)
+        (Line.line_of (Event.Reply reply.now) [])) }
     ensures count { K.faults sink.old ≤ K.faults sink.new }
     ensures cause { OnErr result (Rose (K.faults sink.old) (K.faults sink.new)) }
 {

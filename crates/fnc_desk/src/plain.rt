@@ -5,25 +5,20 @@ ghost use Rattle.fnc_desk.specs.Plain as Plain;
 ghost use Rattle.fnc_desk.specs.Plain.{plain, default_allowed};
 ghost use Rattle.fnc_desk.specs.Inputs.{plain_registration};
 
+use fnc_journal::limits::{DEFAULT_TIME, DEFAULT_TRIES};
 use fnc_journal::{
     Actions, Allowed, Base, Boxed, Candidate, Definition, HostCheck, NoMemory, Plan, Reg,
     Registration, Scope, Sequence, Text,
 };
 use std::alloc::Global;
 
-/// The default time of an action, in milliseconds.
-const TIME: u64 = 60_000;
-
-/// The default tries of an action.
-const TRIES: u8 = 2;
-
 fn allowed(alloc: Global, word: &str) -> Result<Allowed, NoMemory>
     ensures { IfOk result (λ a. a ≡ default_allowed word.now) }
 {
     Ok(Allowed {
         word: Text::new(alloc, word)?,
-        time: TIME,
-        tries: TRIES,
+        time: DEFAULT_TIME,
+        tries: DEFAULT_TRIES,
     })
 }
 

@@ -1,6 +1,27 @@
 -- Characters are spelled by bytes.
 use lib.Utf8.{encode, encodes, scalar, scalars, scalar_cases}
-use Rattle.std.proofs.Common.{◌≡◌, ◌<◌, ◌+◌, ◌/◌, ◌%◌, ℕ, List, [], ◌∷◌, Bool, true, false, cond, refl, ◌∙◌, subst, arith, ltb, ⊎_elim, lt-ltb}
+use Rattle.std.proofs.Common.{
+  ◌≡◌,
+  ◌<◌,
+  ◌+◌,
+  ◌/◌,
+  ◌%◌,
+  ℕ,
+  List,
+  [],
+  ◌∷◌,
+  Bool,
+  true,
+  false,
+  cond,
+  refl,
+  ◌∙◌,
+  subst,
+  arith,
+  ltb,
+  ⊎_elim,
+  lt-ltb,
+}
 use Rattle.std.specs.Prelude.{nat_lt}
 use Rattle.std.specs.List.{list_all}
 use Rattle.std.specs.Str.{is_utf8}
@@ -32,10 +53,13 @@ encode-bytes c h =
         (cond z ((224 + c / 4096) ∷ (128 + (c / 64) % 64) ∷ (128 + c % 64) ∷ [])
         ((240 + c / 262144) ∷ (128 + (c / 4096) % 64) ∷ (128 + (c / 64) % 64) ∷ (128 + c % 64) ∷ [])))) ≡ true
     go true y z f g k = let s = f refl in with c [] (omega (arith, s)) refl
-    go false true z f g k = let s = g refl in with (192 + c / 64) ((128 + c % 64) ∷ []) (omega (arith, s)) (with (128 + c % 64) [] (omega arith) refl)
+    go false true z f g k =
+        let s = g refl in
+        with (192 + c / 64) ((128 + c % 64) ∷ []) (omega (arith, s)) (with (128 + c % 64) [] (omega arith) refl)
     go false false true f g k =
         let s = k refl in
-        with (224 + c / 4096) ((128 + (c / 64) % 64) ∷ (128 + c % 64) ∷ []) (omega (arith, s)) (with (128 + (c / 64) % 64) ((128 + c % 64) ∷ []) (omega arith) (with (128 + c % 64) [] (omega arith) refl))
+        with (224 + c / 4096) ((128 + (c / 64) % 64) ∷ (128 + c % 64) ∷ []) (omega (arith, s))
+        (with (128 + (c / 64) % 64) ((128 + c % 64) ∷ []) (omega arith) (with (128 + c % 64) [] (omega arith) refl))
     go false false false f g k =
         let s = below c h in
         with (240 + c / 262144) ((128 + (c / 4096) % 64) ∷ (128 + (c / 64) % 64) ∷ (128 + c % 64) ∷ []) (omega (arith, s)) (with (128 + (c / 4096) % 64) ((128 + (c / 64) % 64) ∷ (128 + c % 64) ∷ []) (omega arith) (with (128 + (c / 64) % 64) ((128 + c % 64) ∷ []) (omega arith) (with (128 + c % 64) [] (omega arith) refl)))

@@ -1,5 +1,40 @@
 -- The bytes of what is spelled: escaped texts and numbers have no byte that separates.
-use Rattle.std.proofs.Common.{◌≡◌, ◌<◌, ◌≤◌, ◌+◌, ◌*◌, ◌/◌, ◌%◌, ◌^◌, ◌==◌, ℕ, zero, suc, List, [], ◌∷◌, ◌++◌, Bool, true, false, ◌&&◌, ◌||◌, cond, length, decimal, Some, None, Ok, refl, sym, ap, ◌∙◌, arith, rules, eqb-true}
+use Rattle.std.proofs.Common.{
+  ◌≡◌,
+  ◌<◌,
+  ◌≤◌,
+  ◌+◌,
+  ◌*◌,
+  ◌/◌,
+  ◌%◌,
+  ◌^◌,
+  ◌==◌,
+  ℕ,
+  zero,
+  suc,
+  List,
+  [],
+  ◌∷◌,
+  ◌++◌,
+  Bool,
+  true,
+  false,
+  ◌&&◌,
+  ◌||◌,
+  cond,
+  length,
+  decimal,
+  Some,
+  None,
+  Ok,
+  refl,
+  sym,
+  ap,
+  ◌∙◌,
+  arith,
+  rules,
+  eqb-true,
+}
 use Rattle.std.specs.Prelude.{nat_lt, not, bytes_eq}
 use Rattle.std.specs.Char.{is_ascii_digit, is_ascii_hexdigit, digit_value}
 use Rattle.std.specs.List.{list_all}
@@ -32,7 +67,8 @@ all_safe text = list_all is_safe text
 abbrev reads_back : ℕ → List ℕ → Bool
 reads_back b (c ∷ []) = (c == b) && not (c == 37)
 reads_back b (percent ∷ high ∷ low ∷ []) =
-    (percent == 37) && is_ascii_hexdigit high && is_ascii_hexdigit low && not (high == 37) && not (low == 37) && (16 * digit_value high + digit_value low == b)
+    (percent == 37) && is_ascii_hexdigit high && is_ascii_hexdigit low && not (high == 37) && not (low == 37)
+    && (16 * digit_value high + digit_value low == b)
 reads_back b _ = false
 
 abbrev bytes_match : ℕ → Bool
@@ -48,9 +84,11 @@ byte_matches =
     (λ b. ((λ e. e), (λ e. e))) refl (λ _. refl) 256).0 bytes_checked
 
 -- what holds of a list by its items
-pub all-implied : {X : Type 0} (p q : X → Bool) → ((x : X) → p x ≡ true → q x ≡ true) → (xs : List X) → list_all p xs ≡ true → list_all q xs ≡ true
+pub all-implied : {X : Type 0} (p q : X → Bool) → ((x : X) → p x ≡ true → q x ≡ true) → (xs : List X) →
+    list_all p xs ≡ true → list_all q xs ≡ true
 all-implied p q f [] h = refl
-all-implied p q f (x ∷ xs) h = let parts = and_parts (p x) (list_all p xs) h in rw (f x parts.0, all-implied p q f xs parts.1) refl
+all-implied p q f (x ∷ xs) h =
+    let parts = and_parts (p x) (list_all p xs) h in rw (f x parts.0, all-implied p q f xs parts.1) refl
 
 pub not-true : (b : Bool) → not b ≡ true → b ≡ false
 not-true true h = absurd cc
@@ -60,7 +98,9 @@ pub escaped-safe : (text : List ℕ) → are_bytes text ≡ true → list_all is
 escaped-safe [] h = refl
 escaped-safe (b ∷ bs) h =
     let parts = and_parts (nat_lt b 256) (are_bytes bs) h in
-    let one = and_parts (all_safe (escaped_byte b)) (reads_back b (escaped_byte b)) (byte_matches b (ltb-true b 256 parts.0)) in
+    let one =
+    and_parts (all_safe (escaped_byte b)) (reads_back b (escaped_byte b))
+    (byte_matches b (ltb-true b 256 parts.0)) in
     list_all-append is_safe (escaped_byte b) (escaped bs) ∙ rw (one.0, escaped-safe bs parts.1) refl
 
 spelled-plain : (b : ℕ) (rest : List ℕ) → (b == 37) ≡ false → spelled (b ∷ rest) ≡ b ∷ spelled rest
@@ -103,7 +143,8 @@ spelled-byte b (percent ∷ high ∷ low ∷ []) rest h =
     rw e.marked (ap (λ x. x ∷ spelled rest) e.value)
 spelled-byte b (c ∷ d ∷ e ∷ f ∷ more) rest h = absurd cc
 
-formed-byte : (b : ℕ) (e rest : List ℕ) → reads_back b e ≡ true → ((place : ℕ) → malformed_from place rest ≡ None) → (place : ℕ) → malformed_from place (e ++ rest) ≡ None
+formed-byte : (b : ℕ) (e rest : List ℕ) → reads_back b e ≡ true → ((place : ℕ) → malformed_from place rest ≡ None) →
+    (place : ℕ) → malformed_from place (e ++ rest) ≡ None
 formed-byte b [] rest h more place = absurd cc
 formed-byte b (c ∷ []) rest h more place =
     let parts = and_parts (c == b) (not (c == 37)) h in
@@ -118,18 +159,23 @@ spelled-back : (text : List ℕ) → are_bytes text ≡ true → spelled (escape
 spelled-back [] h = refl
 spelled-back (b ∷ bs) h =
     let parts = and_parts (nat_lt b 256) (are_bytes bs) h in
-    let one = and_parts (all_safe (escaped_byte b)) (reads_back b (escaped_byte b)) (byte_matches b (ltb-true b 256 parts.0)) in
+    let one =
+    and_parts (all_safe (escaped_byte b)) (reads_back b (escaped_byte b))
+    (byte_matches b (ltb-true b 256 parts.0)) in
     spelled-byte b (escaped_byte b) (escaped bs) one.1 ∙ ap (λ r. b ∷ r) (spelled-back bs parts.1)
 
 formed-back : (text : List ℕ) → are_bytes text ≡ true → (place : ℕ) → malformed_from place (escaped text) ≡ None
 formed-back [] h place = refl
 formed-back (b ∷ bs) h place =
     let parts = and_parts (nat_lt b 256) (are_bytes bs) h in
-    let one = and_parts (all_safe (escaped_byte b)) (reads_back b (escaped_byte b)) (byte_matches b (ltb-true b 256 parts.0)) in
+    let one =
+    and_parts (all_safe (escaped_byte b)) (reads_back b (escaped_byte b))
+    (byte_matches b (ltb-true b 256 parts.0)) in
     formed-byte b (escaped_byte b) (escaped bs) one.1 (formed-back bs parts.1) place
 
 -- the text that was escaped is read back
-pub unescaped-back : (text : List ℕ) → are_bytes text ≡ true → is_utf8 text ≡ true → unescaped_text (escaped text) ≡ Ok text
+pub unescaped-back : (text : List ℕ) → are_bytes text ≡ true → is_utf8 text ≡ true →
+    unescaped_text (escaped text) ≡ Ok text
 unescaped-back text h u = rw (formed-back text h 0, spelled-back text h, u) refl
 
 -- decimal digits
@@ -169,7 +215,8 @@ other-byte sep b s h = go (b == sep) refl
 pub safe-lacks : (sep : ℕ) (text : List ℕ) → is_safe sep ≡ false → list_all is_safe text ≡ true → lacks sep text ≡ true
 safe-lacks sep text s h = all-implied is_safe (λ b. not (b == sep)) (λ b. other-byte sep b s) text h
 
-pub escaped-lacks : (sep : ℕ) (text : List ℕ) → is_safe sep ≡ false → are_bytes text ≡ true → lacks sep (escaped text) ≡ true
+pub escaped-lacks : (sep : ℕ) (text : List ℕ) → is_safe sep ≡ false → are_bytes text ≡ true →
+    lacks sep (escaped text) ≡ true
 escaped-lacks sep text s h = safe-lacks sep (escaped text) s (escaped-safe text h)
 
 pub decimal-lacks : (sep n : ℕ) → is_safe sep ≡ false → n < 2 ^ 64 → lacks sep (decimal n) ≡ true
@@ -192,7 +239,8 @@ pub escaped-has : (text : List ℕ) → has_byte text ≡ true → has_byte (esc
 escaped-has [] h = absurd cc
 escaped-has (b ∷ bs) h = go (is_plain b)
   where
-    go : (plain : Bool) → has_byte (cond plain (b ∷ []) (37 ∷ hex_digit (b / 16) ∷ hex_digit (b % 16) ∷ []) ++ escaped bs) ≡ true
+    go : (plain : Bool) →
+        has_byte (cond plain (b ∷ []) (37 ∷ hex_digit (b / 16) ∷ hex_digit (b % 16) ∷ []) ++ escaped bs) ≡ true
     go true = refl
     go false = refl
 
@@ -207,6 +255,8 @@ digit-other d c n h = go (d == c) refl
     go true e = absurd (false≢true (sym n ∙ ap is_ascii_digit (sym (eqb-true d c e)) ∙ h))
 
 -- digits are no word that begins with another byte
-pub digits-differ : (ds : List ℕ) (c : ℕ) (cs : List ℕ) → is_ascii_digit c ≡ false → list_all is_ascii_digit ds ≡ true → bytes_eq ds (c ∷ cs) ≡ false
+pub digits-differ : (ds : List ℕ) (c : ℕ) (cs : List ℕ) → is_ascii_digit c ≡ false → list_all is_ascii_digit ds ≡ true →
+    bytes_eq ds (c ∷ cs) ≡ false
 digits-differ [] c cs n h = refl
-digits-differ (d ∷ ds) c cs n h = rw (digit-other d c n (and_parts (is_ascii_digit d) (list_all is_ascii_digit ds) h).0) refl
+digits-differ (d ∷ ds) c cs n h =
+    rw (digit-other d c n (and_parts (is_ascii_digit d) (list_all is_ascii_digit ds) h).0) refl

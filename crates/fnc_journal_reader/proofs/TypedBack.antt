@@ -1,5 +1,30 @@
 -- What is read has the types of an entry's fields.
-use Rattle.std.proofs.Common.{◌≡◌, ◌<◌, ◌≤◌, ◌^◌, ℕ, List, [], ◌∷◌, Bool, true, false, cond, Option, Some, None, Result, Ok, Err, refl, subst, arith, codes, drop, ◌==◌}
+use Rattle.std.proofs.Common.{
+  ◌≡◌,
+  ◌<◌,
+  ◌≤◌,
+  ◌^◌,
+  ℕ,
+  List,
+  [],
+  ◌∷◌,
+  Bool,
+  true,
+  false,
+  cond,
+  Option,
+  Some,
+  None,
+  Result,
+  Ok,
+  Err,
+  refl,
+  subst,
+  arith,
+  codes,
+  drop,
+  ◌==◌,
+}
 use Rattle.std.specs.Prelude.{nat_le, bytes_eq}
 use Rattle.std.specs.List.{list_all, list_any}
 use Rattle.std.specs.Str.{is_utf8}
@@ -32,7 +57,8 @@ record Succeeds {A B : Type 0} (r : Result A EntryFault) (f : A → Result B Ent
   got : r ≡ Ok value
   rest : f value ≡ Ok y
 
-succeeds : {A B : Type 0} (r : Result A EntryFault) (f : A → Result B EntryFault) (y : B) → (r >>= f) ≡ Ok y → Succeeds r f y
+succeeds : {A B : Type 0} (r : Result A EntryFault) (f : A → Result B EntryFault) (y : B) → (r >>= f) ≡ Ok y →
+    Succeeds r f y
 succeeds (Ok x) f y h = record { value = x; got = refl; rest = h }
 succeeds (Err fault) f y h = absurd cc
 
@@ -43,7 +69,8 @@ same h = cc
 most-of : (most : ℕ) (w : List ℕ) (n : ℕ) → Values.number_of most w ≡ Ok n → n ≤ most
 most-of most w n h = go (is_number w) (nat_le (digits_value w) most) refl h
   where
-    go : (digits small : Bool) → nat_le (digits_value w) most ≡ small → or_malformed (cond digits (cond small (Some (digits_value w)) None) None) ≡ Ok n → n ≤ most
+    go : (digits small : Bool) → nat_le (digits_value w) most ≡ small →
+        or_malformed (cond digits (cond small (Some (digits_value w)) None) None) ≡ Ok n → n ≤ most
     go true true e k = subst (λ v. v ≤ most) (same k) (leb-true (digits_value w) most e)
     go true false e k = absurd cc
     go false small e k = absurd cc
@@ -61,7 +88,8 @@ u8-typed w n h = let small : n ≤ 255 = most-of 255 w n h in omega (arith, smal
 text-typed : (w t : List ℕ) → Values.text_of w ≡ Ok t → Typed.are_characters t ≡ true
 text-typed w t h = go (unescaped w) h
   where
-    told : (bytes : List ℕ) (is : Bool) → is_utf8 bytes ≡ is → Values.or_no_text (cond is (Ok bytes) (Err EscapeFault.NotUtf8)) ≡ Ok t → Typed.are_characters t ≡ true
+    told : (bytes : List ℕ) (is : Bool) → is_utf8 bytes ≡ is →
+        Values.or_no_text (cond is (Ok bytes) (Err EscapeFault.NotUtf8)) ≡ Ok t → Typed.are_characters t ≡ true
     told bytes true e k = subst (λ x. is_utf8 x ≡ true) (same k) e
     told bytes false e k = absurd cc
 
@@ -76,19 +104,22 @@ optional-typed (b ∷ bs) t h =
     subst (λ x. Typed.is_optional x ≡ true) (same text.rest) (text-typed (b ∷ bs) text.value text.got)
 
 -- lists
-each-typed : {X : Type 0} (read : List ℕ → Result X EntryFault) (q : X → Bool) → ((w : List ℕ) (x : X) → read w ≡ Ok x → q x ≡ true) → (ws : List (List ℕ)) (xs : List X) → each read ws ≡ Ok xs →
+each-typed : {X : Type 0} (read : List ℕ → Result X EntryFault) (q : X → Bool) →
+    ((w : List ℕ) (x : X) → read w ≡ Ok x → q x ≡ true) → (ws : List (List ℕ)) (xs : List X) → each read ws ≡ Ok xs →
     list_all q xs ≡ true
 each-typed read q f [] xs h = subst (λ ys. list_all q ys ≡ true) (same h) refl
 each-typed read q f (w ∷ ws) xs h =
     let first = succeeds (read w) _ xs h in
     let others = succeeds (each read ws) _ xs first.rest in
-    subst (λ ys. list_all q ys ≡ true) (same others.rest) (rw (f w first.value first.got, each-typed read q f ws others.value others.got) refl)
+    subst (λ ys. list_all q ys ≡ true) (same others.rest)
+    (rw (f w first.value first.got, each-typed read q f ws others.value others.got) refl)
 
 pair-typed : (sep : ℕ) (w : List ℕ) (p : Pair) → Values.pair_of sep w ≡ Ok p → Typed.is_pair p ≡ true
 pair-typed sep w p h =
     let name = succeeds (Values.text_of (front sep w)) _ p h in
     let text = succeeds (Values.text_of (after sep w)) _ p name.rest in
-    subst (λ x. Typed.is_pair x ≡ true) (same text.rest) (rw (text-typed (front sep w) name.value name.got, text-typed (after sep w) text.value text.got) refl)
+    subst (λ x. Typed.is_pair x ≡ true) (same text.rest)
+    (rw (text-typed (front sep w) name.value name.got, text-typed (after sep w) text.value text.got) refl)
 
 delay-typed : (w : List ℕ) (d : Delay) → Values.delay_of w ≡ Ok d → Typed.is_delay d ≡ true
 delay-typed w d h =
@@ -109,7 +140,8 @@ base-typed w base h = go (list_any (λ b. b == 58) w) h
         Typed.is_base base ≡ true
     go true k =
         let delays = succeeds (each Values.delay_of (parts 59 w)) _ base k in
-        subst (λ x. Typed.is_base x ≡ true) (same delays.rest) (each-typed Values.delay_of Typed.is_delay delay-typed (parts 59 w) delays.value delays.got)
+        subst (λ x. Typed.is_base x ≡ true) (same delays.rest)
+        (each-typed Values.delay_of Typed.is_delay delay-typed (parts 59 w) delays.value delays.got)
     go false k = let ms = succeeds (Values.u64_of w) _ base k in subst (λ x. Typed.is_base x ≡ true) (same ms.rest) refl
 
 allowed-typed : (w : List ℕ) (a : Allowed) → Values.allowed_of w ≡ Ok a → Typed.are_characters a.word ≡ true
@@ -117,11 +149,14 @@ allowed-typed w a h =
     let word = succeeds (Values.text_of (front 47 w)) _ a h in
     let time = succeeds (Values.u64_of (front 47 (after 47 w))) _ a word.rest in
     let tries = succeeds (Values.u8_of (after 47 (after 47 w))) _ a time.rest in
-    subst (λ (x : Allowed). Typed.are_characters x.word ≡ true) (same tries.rest) (text-typed (front 47 w) word.value word.got)
+    subst (λ (x : Allowed). Typed.are_characters x.word ≡ true) (same tries.rest)
+    (text-typed (front 47 w) word.value word.got)
 
 -- cases
 exit-typed : (w : List ℕ) (e : Exit) → Values.exit_of w ≡ Ok e → Typed.IsExit e
-exit-typed w e h = go (bytes_eq w (codes "signal")) (bytes_eq w (codes "no-start")) (bytes_eq w (codes "too-long")) (bytes_eq w (codes "no-memory")) h
+exit-typed w e h =
+    go (bytes_eq w (codes "signal")) (bytes_eq w (codes "no-start")) (bytes_eq w (codes "too-long"))
+    (bytes_eq w (codes "no-memory")) h
   where
     go : (a b c d : Bool) →
         cond a (Ok Exit.Signal) (cond b (Ok Exit.NoStart) (cond c (Ok Exit.TooLong) (cond d (Ok Exit.NoMemory) (Values.u8_of w >>= λ code. Ok (Exit.Code code))))) ≡ Ok e → Typed.IsExit e
@@ -129,7 +164,9 @@ exit-typed w e h = go (bytes_eq w (codes "signal")) (bytes_eq w (codes "no-start
     go false true c d k = subst Typed.IsExit (same k) tt
     go false false true d k = subst Typed.IsExit (same k) tt
     go false false false true k = subst Typed.IsExit (same k) tt
-    go false false false false k = let code = succeeds (Values.u8_of w) _ e k in subst Typed.IsExit (same code.rest) (u8-typed w code.value code.got)
+    go false false false false k =
+        let code = succeeds (Values.u8_of w) _ e k in
+        subst Typed.IsExit (same code.rest) (u8-typed w code.value code.got)
 
 scope-typed : (w : List ℕ) (s : Scope) → Values.scope_of w ≡ Ok s → Typed.IsScope s
 scope-typed w s h = go (bytes_eq w (codes "none")) (bytes_eq w (codes "name")) h
@@ -137,14 +174,19 @@ scope-typed w s h = go (bytes_eq w (codes "none")) (bytes_eq w (codes "name")) h
     go : (a b : Bool) → cond a (Ok Scope.Nothing) (cond b (Ok Scope.Name) (Values.u32_of (after 58 w) >>= λ index. Ok (Scope.Pattern index))) ≡ Ok s → Typed.IsScope s
     go true b k = subst Typed.IsScope (same k) tt
     go false true k = subst Typed.IsScope (same k) tt
-    go false false k = let index = succeeds (Values.u32_of (after 58 w)) _ s k in subst Typed.IsScope (same index.rest) (u32-typed (after 58 w) index.value index.got)
+    go false false k =
+        let index = succeeds (Values.u32_of (after 58 w)) _ s k in
+        subst Typed.IsScope (same index.rest) (u32-typed (after 58 w) index.value index.got)
 
 answer-typed : (v w : List ℕ) (a : Answer) → Values.answer_of v w ≡ Ok a → Typed.IsAnswer a
 answer-typed v w a h = go (bytes_eq v (codes "ok")) h
   where
-    success : (is : Bool) → cond is (Ok Answer.Confirmed) (Values.u8_of w >>= λ level. Ok (Answer.Passed level)) ≡ Ok a → Typed.IsAnswer a
+    success : (is : Bool) →
+        cond is (Ok Answer.Confirmed) (Values.u8_of w >>= λ level. Ok (Answer.Passed level)) ≡ Ok a → Typed.IsAnswer a
     success true k = subst Typed.IsAnswer (same k) tt
-    success false k = let level = succeeds (Values.u8_of w) _ a k in subst Typed.IsAnswer (same level.rest) (u8-typed w level.value level.got)
+    success false k =
+        let level = succeeds (Values.u8_of w) _ a k in
+        subst Typed.IsAnswer (same level.rest) (u8-typed w level.value level.got)
 
     failure : (x y z : Bool) → cond x (Ok Answer.Levels) (cond y (Ok Answer.Time) (cond z (Ok Answer.NoDevice) (Err EntryFault.Malformed))) ≡ Ok a → Typed.IsAnswer a
     failure true y z k = subst Typed.IsAnswer (same k) tt
@@ -157,7 +199,9 @@ answer-typed v w a h = go (bytes_eq v (codes "ok")) h
     go false k = failure (bytes_eq w (codes "levels")) (bytes_eq w (codes "time")) (bytes_eq w (codes "none")) k
 
 target-typed : (v w : List ℕ) (t : LevelTarget) → Values.target_of v w ≡ Ok t → Typed.is_target t ≡ true
-target-typed v w t h = let text = succeeds (Values.text_of w) _ t h in go (bytes_eq v (codes "name")) text.value (text-typed w text.value text.got) text.rest
+target-typed v w t h =
+    let text = succeeds (Values.text_of w) _ t h in
+    go (bytes_eq v (codes "name")) text.value (text-typed w text.value text.got) text.rest
   where
     go : (name : Bool) (text : List ℕ) → Typed.are_characters text ≡ true →
         ◌≡◌ {A = Result LevelTarget EntryFault} (cond name (Ok (LevelTarget.Name text)) (Ok (LevelTarget.Pattern text))) (Ok t) → Typed.is_target t ≡ true
@@ -193,7 +237,8 @@ definition-typed ws d h =
       reboot = allowed-typed (value ws 17) reboot.value reboot.got;
       list = allowed-typed (value ws 18) list.value list.got;
       status = allowed-typed (value ws 19) status.value status.got;
-      own = each-typed Values.own_of Typed.is_pair (λ w p e. pair-typed 61 (drop 2 w) p e) (drop 20 ws) own.value own.got;
+      own =
+          each-typed Values.own_of Typed.is_pair (λ w p e. pair-typed 61 (drop 2 w) p e) (drop 20 ws) own.value own.got;
     })
 
 module _ (ws : List (List ℕ)) (event : Event) where
@@ -213,7 +258,9 @@ module _ (ws : List (List ℕ)) (event : Event) where
       )
 
   gone-typed : Entries.gone_of ws ≡ Ok event → Typed.IsEvent event
-  gone-typed h = let reg = succeeds (Values.u32_of (nth ws 2)) _ event h in subst Typed.IsEvent (same reg.rest) (u32-typed (nth ws 2) reg.value reg.got)
+  gone-typed h =
+      let reg = succeeds (Values.u32_of (nth ws 2)) _ event h in
+      subst Typed.IsEvent (same reg.rest) (u32-typed (nth ws 2) reg.value reg.got)
 
   level-typed : Entries.level_of ws ≡ Ok event → Typed.IsEvent event
   level-typed h =
@@ -238,7 +285,9 @@ module _ (ws : List (List ℕ)) (event : Event) where
       (record {
         name = text-typed (nth ws 2) name.value name.got;
         target = optional-typed (value ws 4) target.value target.got;
-        parameters = each-typed Values.parameter_of Typed.is_parameter parameter-typed (drop 5 ws) parameters.value parameters.got;
+        parameters =
+            each-typed Values.parameter_of Typed.is_parameter parameter-typed (drop 5 ws) parameters.value
+            parameters.got;
       })
 
   ask-typed : Entries.ask_of ws ≡ Ok event → Typed.IsEvent event
@@ -266,13 +315,15 @@ module _ (ws : List (List ℕ)) (event : Event) where
   exited-typed h =
       let run = succeeds (Values.u32_of (nth ws 2)) _ event h in
       let exit = succeeds (Values.exit_of (nth ws 3)) _ event run.rest in
-      subst Typed.IsEvent (same exit.rest) (u32-typed (nth ws 2) run.value run.got, exit-typed (nth ws 3) exit.value exit.got)
+      subst Typed.IsEvent (same exit.rest)
+      (u32-typed (nth ws 2) run.value run.got, exit-typed (nth ws 3) exit.value exit.got)
 
   confirm-typed : Entries.confirm_of ws ≡ Ok event → Typed.IsEvent event
   confirm-typed h =
       let client = succeeds (Values.text_of (nth ws 2)) _ event h in
       let target = succeeds (Values.text_of (nth ws 3)) _ event client.rest in
-      subst Typed.IsEvent (same target.rest) (text-typed (nth ws 2) client.value client.got, text-typed (nth ws 3) target.value target.got)
+      subst Typed.IsEvent (same target.rest)
+      (text-typed (nth ws 2) client.value client.got, text-typed (nth ws 3) target.value target.got)
 
   refused-typed : Entries.refused_of ws ≡ Ok event → Typed.IsEvent event
   refused-typed h =
@@ -304,11 +355,13 @@ module _ (ws : List (List ℕ)) (event : Event) where
   reply-typed h =
       let req = succeeds (Values.u32_of (nth ws 2)) _ event h in
       let answer = succeeds (Values.answer_of (nth ws 3) (nth ws 4)) _ event req.rest in
-      subst Typed.IsEvent (same answer.rest) (u32-typed (nth ws 2) req.value req.got, answer-typed (nth ws 3) (nth ws 4) answer.value answer.got)
+      subst Typed.IsEvent (same answer.rest)
+      (u32-typed (nth ws 2) req.value req.got, answer-typed (nth ws 3) (nth ws 4) answer.value answer.got)
 
   configured-typed : (verb : List ℕ) → Entries.configured_of verb ws ≡ Ok event → Typed.IsEvent event
   configured-typed verb h =
-      go (bytes_eq verb (codes "device")) (bytes_eq verb (codes "gone")) (bytes_eq verb (codes "level")) (bytes_eq verb (codes "unlevel")) (bytes_eq verb (codes "agent")) h
+      go (bytes_eq verb (codes "device")) (bytes_eq verb (codes "gone")) (bytes_eq verb (codes "level"))
+      (bytes_eq verb (codes "unlevel")) (bytes_eq verb (codes "agent")) h
     where
       go : (a b c d e : Bool) →
           cond a (Entries.device_of ws) (cond b (Entries.gone_of ws) (cond c (Entries.level_of ws) (cond d (Entries.level_gone_of ws) (cond e (Entries.agent_of ws) (Err EntryFault.Malformed))))) ≡ Ok event →
@@ -322,7 +375,8 @@ module _ (ws : List (List ℕ)) (event : Event) where
 
   event-typed : (verb : List ℕ) → Entries.event_of verb ws ≡ Ok event → Typed.IsEvent event
   event-typed verb h =
-      go (bytes_eq verb (codes "ask")) (bytes_eq verb (codes "exit")) (bytes_eq verb (codes "pass")) (bytes_eq verb (codes "confirm")) (bytes_eq verb (codes "refused"))
+      go (bytes_eq verb (codes "ask")) (bytes_eq verb (codes "exit")) (bytes_eq verb (codes "pass"))
+      (bytes_eq verb (codes "confirm")) (bytes_eq verb (codes "refused"))
       (bytes_eq verb (codes "start")) (bytes_eq verb (codes "reply")) h
     where
       go : (a b c d e f g : Bool) →

@@ -1,5 +1,33 @@
 -- Values are read back from their spellings.
-use Rattle.std.proofs.Common.{◌≡◌, ◌<◌, ◌≤◌, ◌^◌, ℕ, suc, ℤ, pos, negsuc, List, [], ◌∷◌, Bool, true, false, map, codes, decimal, Option, Some, None, Result, Ok, refl, ap, ◌∙◌, arith}
+use Rattle.std.proofs.Common.{
+  ◌≡◌,
+  ◌<◌,
+  ◌≤◌,
+  ◌^◌,
+  ℕ,
+  suc,
+  ℤ,
+  pos,
+  negsuc,
+  List,
+  [],
+  ◌∷◌,
+  Bool,
+  true,
+  false,
+  map,
+  codes,
+  decimal,
+  Option,
+  Some,
+  None,
+  Result,
+  Ok,
+  refl,
+  ap,
+  ◌∙◌,
+  arith,
+}
 use Rattle.std.specs.Prelude.{nat_lt, nat_le}
 use Rattle.std.specs.Fmt.{signed_decimal}
 use Rattle.std.specs.Char.{is_ascii_digit}
@@ -15,27 +43,44 @@ use Rattle.fnc_journal.specs.declared.entry.Phase.{Phase}
 use Rattle.fnc_journal.specs.declared.entry.Scope.{Scope}
 use Rattle.fnc_journal.specs.Causes.{word_of}
 use Rattle.fnc_journal.specs.Line.{escaped, kind_word}
+use Rattle.fnc_journal.specs.declared.limits.TheConstants.{GREATEST_PRIORITY}
 use Rattle.fnc_journal_reader.specs.declared.fault.EntryFault.{EntryFault}
 use Rattle.fnc_journal.specs.Bounds as Bounds
 use Rattle.fnc_journal_reader.specs.Reads.{◌>>=◌, each, or_malformed}
 use Rattle.fnc_journal_text.specs.Spelled as Spelled
 use Rattle.fnc_journal_reader.specs.Typed as Typed
 use Rattle.fnc_journal_reader.specs.Values as Values
-use Rattle.fnc_journal_reader.proofs.Spellings.{is_safe, lacks, has_byte, escaped-has, decimal-has, escaped-lacks, decimal-lacks, decimal-digits, digit-other, digits-differ, number-back, unescaped-back}
+use Rattle.fnc_journal_reader.proofs.Spellings.{
+  is_safe,
+  lacks,
+  has_byte,
+  escaped-has,
+  decimal-has,
+  escaped-lacks,
+  decimal-lacks,
+  decimal-digits,
+  digit-other,
+  digits-differ,
+  number-back,
+  unescaped-back,
+}
 use Rattle.fnc_journal_reader.proofs.CharacterBytes.{characters-bytes}
 use Rattle.fnc_journal_reader.proofs.Splits.{is_part}
 
 -- a step that succeeds
-pub step : {A B : Type 0} (r : Result A EntryFault) (x : A) (f : A → Result B EntryFault) (y : Result B EntryFault) → r ≡ Ok x → f x ≡ y → (r >>= f) ≡ y
+pub step : {A B : Type 0} (r : Result A EntryFault) (x : A) (f : A → Result B EntryFault) (y : Result B EntryFault) →
+    r ≡ Ok x → f x ≡ y → (r >>= f) ≡ y
 step r x f y e h = ap (λ s. s >>= f) e ∙ h
 
-pub each-back : {X : Type 0} (read : List ℕ → Result X EntryFault) (spell : X → List ℕ) (p q : X → Bool) → ((x : X) → p x ≡ true → q x ≡ true → read (spell x) ≡ Ok x) → (xs : List X) →
+pub each-back : {X : Type 0} (read : List ℕ → Result X EntryFault) (spell : X → List ℕ) (p q : X → Bool) →
+    ((x : X) → p x ≡ true → q x ≡ true → read (spell x) ≡ Ok x) → (xs : List X) →
     list_all p xs ≡ true → list_all q xs ≡ true → each read (map spell xs) ≡ Ok xs
 each-back read spell p q f [] k l = refl
 each-back read spell p q f (x ∷ xs) k l =
     let ps = and_parts (p x) (list_all p xs) k in
     let qs = and_parts (q x) (list_all q xs) l in
-    step (read (spell x)) x _ _ (f x ps.0 qs.0) (step (each read (map spell xs)) xs _ _ (each-back read spell p q f xs ps.1 qs.1) refl)
+    step (read (spell x)) x _ _ (f x ps.0 qs.0)
+    (step (each read (map spell xs)) xs _ _ (each-back read spell p q f xs ps.1 qs.1) refl)
 
 -- numbers
 pub number_of-back : (most n : ℕ) → n ≤ most → n < 2 ^ 64 → Values.number_of most (decimal n) ≡ Ok n
@@ -54,13 +99,15 @@ u8-back n h = number_of-back 255 n (omega (arith, h)) (omega (arith, h))
 pub text-back : (t : List ℕ) → Typed.are_characters t ≡ true → Values.text_of (escaped t) ≡ Ok t
 text-back t h = ap Values.or_no_text (unescaped-back t (characters-bytes t h) h)
 
-pub text-lacks : (sep : ℕ) (t : List ℕ) → is_safe sep ≡ false → Typed.are_characters t ≡ true → lacks sep (escaped t) ≡ true
+pub text-lacks : (sep : ℕ) (t : List ℕ) → is_safe sep ≡ false → Typed.are_characters t ≡ true →
+    lacks sep (escaped t) ≡ true
 text-lacks sep t s h = escaped-lacks sep t s (characters-bytes t h)
 
 pub part-of : (sep : ℕ) (w : List ℕ) → has_byte w ≡ true → lacks sep w ≡ true → is_part sep w ≡ true
 part-of sep w h k = rw (h, k) refl
 
-pub text-part : (sep : ℕ) (t : List ℕ) → is_safe sep ≡ false → has_byte t ≡ true → Typed.are_characters t ≡ true → is_part sep (escaped t) ≡ true
+pub text-part : (sep : ℕ) (t : List ℕ) → is_safe sep ≡ false → has_byte t ≡ true → Typed.are_characters t ≡ true →
+    is_part sep (escaped t) ≡ true
 text-part sep t s k h = part-of sep (escaped t) (escaped-has t k) (text-lacks sep t s h)
 
 pub number-part : (sep n : ℕ) → is_safe sep ≡ false → n < 2 ^ 64 → is_part sep (decimal n) ≡ true
@@ -74,12 +121,15 @@ option-has : (name : List ℕ) → Bounds.is_option_name name ≡ true → has_b
 option-has [] h = cc
 option-has (b ∷ bs) h = refl
 
-pub optional-back : (t : Option (List ℕ)) → Bounds.is_carrier t ≡ true → Typed.is_optional t ≡ true → Values.optional_of (Spelled.text_or_none t) ≡ Ok t
+pub optional-back : (t : Option (List ℕ)) → Bounds.is_carrier t ≡ true → Typed.is_optional t ≡ true →
+    Values.optional_of (Spelled.text_or_none t) ≡ Ok t
 optional-back None b h = refl
 optional-back (Some t) b h =
-    optional-some (escaped t) (escaped-has t (option-has t b)) ∙ step (Values.text_of (escaped t)) t _ _ (text-back t h) refl
+    optional-some (escaped t) (escaped-has t (option-has t b))
+    ∙ step (Values.text_of (escaped t)) t _ _ (text-back t h) refl
 
-pub optional-lacks : (sep : ℕ) (t : Option (List ℕ)) → is_safe sep ≡ false → Typed.is_optional t ≡ true → lacks sep (Spelled.text_or_none t) ≡ true
+pub optional-lacks : (sep : ℕ) (t : Option (List ℕ)) → is_safe sep ≡ false → Typed.is_optional t ≡ true →
+    lacks sep (Spelled.text_or_none t) ≡ true
 optional-lacks sep None s h = refl
 optional-lacks sep (Some t) s h = text-lacks sep t s h
 
@@ -157,9 +207,11 @@ scope-part Scope.Nothing h = refl
 scope-part Scope.Name h = refl
 scope-part (Scope.Pattern n) h = decimal-lacks 32 n refl (omega (arith, h))
 
-pub answer-back : (a : Answer) → Typed.IsAnswer a → Values.answer_of (Spelled.answer_word a) (Spelled.answer_text a) ≡ Ok a
+pub answer-back : (a : Answer) → Typed.IsAnswer a →
+    Values.answer_of (Spelled.answer_word a) (Spelled.answer_text a) ≡ Ok a
 answer-back (Answer.Passed n) h =
-    rw (digits-differ (decimal n) 99 (codes "onfirmed") refl (decimal-digits n (omega (arith, h)))) (step (Values.u8_of (decimal n)) n _ _ (u8-back n h) refl)
+    rw (digits-differ (decimal n) 99 (codes "onfirmed") refl (decimal-digits n (omega (arith, h))))
+    (step (Values.u8_of (decimal n)) n _ _ (u8-back n h) refl)
 answer-back Answer.Confirmed h = refl
 answer-back Answer.Levels h = refl
 answer-back Answer.Time h = refl
@@ -179,9 +231,11 @@ answered-part Answer.Levels h = refl
 answered-part Answer.Time h = refl
 answered-part Answer.NoDevice h = refl
 
-pub target-back : (t : LevelTarget) → Typed.is_target t ≡ true → Values.target_of (Spelled.target_word t) (escaped (Spelled.target_text t)) ≡ Ok t
+pub target-back : (t : LevelTarget) → Typed.is_target t ≡ true →
+    Values.target_of (Spelled.target_word t) (escaped (Spelled.target_text t)) ≡ Ok t
 target-back (LevelTarget.Name name) h = step (Values.text_of (escaped name)) name _ _ (text-back name h) refl
-target-back (LevelTarget.Pattern pattern) h = step (Values.text_of (escaped pattern)) pattern _ _ (text-back pattern h) refl
+target-back (LevelTarget.Pattern pattern) h =
+    step (Values.text_of (escaped pattern)) pattern _ _ (text-back pattern h) refl
 
 pub target-part : (t : LevelTarget) → is_part 32 (Spelled.target_word t) ≡ true
 target-part (LevelTarget.Name name) = refl
@@ -191,7 +245,8 @@ pub cap-back : (c : Option ℕ) → Bounds.is_cap c ≡ true → Values.cap_of (
 cap-back None b = refl
 cap-back (Some n) b =
     let small : n ≤ 64 = leb-true n 64 (and_parts (nat_lt 0 n) (nat_le n 64) b).1 in
-    rw (digits-differ (decimal n) 45 (codes "1") refl (decimal-digits n (omega (arith, small)))) (step (Values.u32_of (decimal n)) n _ _ (u32-back n (omega (arith, small))) refl)
+    rw (digits-differ (decimal n) 45 (codes "1") refl (decimal-digits n (omega (arith, small))))
+    (step (Values.u32_of (decimal n)) n _ _ (u32-back n (omega (arith, small))) refl)
 
 pub cap-lacks : (c : Option ℕ) → Bounds.is_cap c ≡ true → lacks 32 (Spelled.cap_text c) ≡ true
 cap-lacks None b = refl
@@ -199,22 +254,28 @@ cap-lacks (Some n) b =
     let small : n ≤ 64 = leb-true n 64 (and_parts (nat_lt 0 n) (nat_le n 64) b).1 in
     decimal-lacks 32 n refl (omega (arith, small))
 
-priority-digits : (ds : List ℕ) → has_byte ds ≡ true → list_all is_ascii_digit ds ≡ true → Values.priority_of ds ≡ (Values.number_of 1000000 ds >>= λ n. Ok (pos n))
+priority-digits : (ds : List ℕ) → has_byte ds ≡ true → list_all is_ascii_digit ds ≡ true →
+    Values.priority_of ds ≡ (Values.number_of GREATEST_PRIORITY ds >>= λ n. Ok (pos n))
 priority-digits [] k h = absurd cc
-priority-digits (d ∷ ds) k h = rw (digit-other d 45 refl (and_parts (is_ascii_digit d) (list_all is_ascii_digit ds) h).0) refl
+priority-digits (d ∷ ds) k h =
+    rw (digit-other d 45 refl (and_parts (is_ascii_digit d) (list_all is_ascii_digit ds) h).0) refl
 
 pub priority-back : (z : ℤ) → Bounds.is_priority z ≡ true → Values.priority_of (signed_decimal z) ≡ Ok z
 priority-back (pos n) b =
-    let small : n ≤ 1000000 = leb-true n 1000000 b in
+    let small : n ≤ GREATEST_PRIORITY = leb-true n GREATEST_PRIORITY b in
     let fits : n < 2 ^ 64 = omega (arith, small) in
-    priority-digits (decimal n) (decimal-has n fits) (decimal-digits n fits) ∙ step (Values.number_of 1000000 (decimal n)) n _ _ (number_of-back 1000000 n small fits) refl
+    priority-digits (decimal n) (decimal-has n fits) (decimal-digits n fits)
+    ∙ step (Values.number_of GREATEST_PRIORITY (decimal n)) n _ _ (number_of-back GREATEST_PRIORITY n small fits) refl
 priority-back (negsuc n) b =
-    let small : n < 1000000 = ltb-true n 1000000 b in
-    step (Values.number_of 1000000 (decimal (suc n))) (suc n) _ _ (number_of-back 1000000 (suc n) (omega (arith, small)) (omega (arith, small))) refl
+    let small : n < GREATEST_PRIORITY = ltb-true n GREATEST_PRIORITY b in
+    step (Values.number_of GREATEST_PRIORITY (decimal (suc n))) (suc n) _ _
+    (number_of-back GREATEST_PRIORITY (suc n) (omega (arith, small)) (omega (arith, small))) refl
 
 pub priority-lacks : (z : ℤ) → Bounds.is_priority z ≡ true → lacks 32 (signed_decimal z) ≡ true
-priority-lacks (pos n) b = let small : n ≤ 1000000 = leb-true n 1000000 b in decimal-lacks 32 n refl (omega (arith, small))
-priority-lacks (negsuc n) b = let small : n < 1000000 = ltb-true n 1000000 b in decimal-lacks 32 (suc n) refl (omega (arith, small))
+priority-lacks (pos n) b =
+    let small : n ≤ GREATEST_PRIORITY = leb-true n GREATEST_PRIORITY b in decimal-lacks 32 n refl (omega (arith, small))
+priority-lacks (negsuc n) b =
+    let small : n < GREATEST_PRIORITY = ltb-true n GREATEST_PRIORITY b in decimal-lacks 32 (suc n) refl (omega (arith, small))
 
 pub cause-back : (c : Cause) → Values.cause_of (word_of c) ≡ Ok c
 cause-back Cause.TooLong = refl

@@ -1,5 +1,27 @@
--- What the words of a line are read as. Reading takes more than the spellings: which line is one is told by printing again.
-use Rattle.std.specs.Prelude.{ℕ, List, [], ◌∷◌, Bool, ◌==◌, if◌then◌else◌, Option, Some, None, Result, Ok, Err, ℤ, pos, neg_ℤ, bytes_eq, codes, find, drop}
+-- What the words of a line are read as. Reading takes more than the spellings: which line is one is told by printing
+-- again.
+use Rattle.std.specs.Prelude.{
+  ℕ,
+  List,
+  [],
+  ◌∷◌,
+  Bool,
+  ◌==◌,
+  if◌then◌else◌,
+  Option,
+  Some,
+  None,
+  Result,
+  Ok,
+  Err,
+  ℤ,
+  pos,
+  neg_ℤ,
+  bytes_eq,
+  codes,
+  find,
+  drop,
+}
 use Rattle.std.specs.List.{list_any}
 use Rattle.fnc_journal.specs.declared.cause.Cause.{Cause}
 use Rattle.fnc_journal.specs.declared.definition.Actions.{Actions}
@@ -14,6 +36,7 @@ use Rattle.fnc_journal.specs.declared.entry.Kind.{Kind}
 use Rattle.fnc_journal.specs.declared.entry.LevelTarget.{LevelTarget}
 use Rattle.fnc_journal.specs.declared.entry.Phase.{Phase}
 use Rattle.fnc_journal.specs.declared.entry.Scope.{Scope}
+use Rattle.fnc_journal.specs.declared.limits.TheConstants.{GREATEST_PRIORITY}
 use Rattle.fnc_journal.specs.declared.names.Pair.{Pair}
 use Rattle.fnc_journal.specs.Causes.{word_of}
 use Rattle.fnc_journal.specs.Line.{kind_word}
@@ -107,7 +130,9 @@ scope_of word =
 
 -- an answer that is a success, and one that is none
 abbrev pub success_of : List ℕ → Result Answer EntryFault
-success_of word = if bytes_eq word (codes "confirmed") then Ok Answer.Confirmed else (u8_of word >>= λ level. Ok (Answer.Passed level))
+success_of word =
+    if bytes_eq word (codes "confirmed") then Ok Answer.Confirmed
+    else (u8_of word >>= λ level. Ok (Answer.Passed level))
 
 abbrev pub failure_of : List ℕ → Result Answer EntryFault
 failure_of word =
@@ -123,7 +148,8 @@ answer_of first second = if bytes_eq first (codes "ok") then success_of second e
 -- what a level is for
 abbrev pub target_of : List ℕ → List ℕ → Result LevelTarget EntryFault
 target_of word text =
-    text_of text >>= λ read. if bytes_eq word (codes "name") then Ok (LevelTarget.Name read) else Ok (LevelTarget.Pattern read)
+    text_of text >>= λ read.
+    if bytes_eq word (codes "name") then Ok (LevelTarget.Name read) else Ok (LevelTarget.Pattern read)
 
 -- a limit of runs
 abbrev pub cap_of : List ℕ → Result (Option ℕ) EntryFault
@@ -133,12 +159,15 @@ cap_of text = if bytes_eq text (codes "-1") then Ok None else (u32_of text >>= �
 abbrev pub priority_of : List ℕ → Result ℤ EntryFault
 priority_of [] = Err EntryFault.Malformed
 priority_of (b ∷ bs) =
-    if b == 45 then (number_of 1000000 bs >>= λ n. Ok (neg_ℤ (pos n))) else (number_of 1000000 (b ∷ bs) >>= λ n. Ok (pos n))
+    if b == 45 then (number_of GREATEST_PRIORITY bs >>= λ n. Ok (neg_ℤ (pos n)))
+    else (number_of GREATEST_PRIORITY (b ∷ bs) >>= λ n. Ok (pos n))
 
 -- a name and a value, cut at a byte
 abbrev pub pair_of : ℕ → List ℕ → Result Pair EntryFault
 pair_of sep part =
-    text_of (front sep part) >>= λ name. text_of (after sep part) >>= λ value. Ok (record { name = name; value = value })
+    text_of (front sep part) >>= λ name.
+    text_of (after sep part) >>= λ value.
+    Ok (record { name = name; value = value })
 
 -- a node and its delay
 abbrev pub delay_of : List ℕ → Result Delay EntryFault
@@ -151,7 +180,8 @@ own_of word = pair_of 61 (drop 2 word)
 
 abbrev pub parameter_of : List ℕ → Result Parameter EntryFault
 parameter_of word =
-    text_of (front 61 (drop 2 word)) >>= λ name. Ok (record { name = name; required = flag_of (after 61 (drop 2 word)) })
+    text_of (front 61 (drop 2 word)) >>= λ name.
+    Ok (record { name = name; required = flag_of (after 61 (drop 2 word)) })
 
 -- a delay, written for all nodes or node by node
 abbrev pub base_of : List ℕ → Result Base EntryFault

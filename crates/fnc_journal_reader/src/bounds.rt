@@ -1,6 +1,6 @@
 // The bounds of what a journal's text holds: of a device, only what options can define.
 
-ghost use Rattle.std.specs.Prelude.{◌≡◌, ◌==◌, nat_eq, codes};
+ghost use Rattle.std.specs.Prelude.{◌≡◌, ◌==◌, ◌-◌, nat_eq, codes};
 ghost use Rattle.std.specs.List.{ends_with, list_all, list_any};
 ghost use Rattle.fnc_text.specs.Names as Names;
 ghost use Rattle.fnc_journal.specs.Bounds as Bounds;
@@ -81,7 +81,7 @@ fn is_node(name: &[u8]) -> bool
 }
 
 fn is_port(port: &[u8]) -> bool
-    ensures { result ≡ Bounds.is_text 4094 Bounds.is_entry_byte port.now }
+    ensures { result ≡ Bounds.is_text (LONGEST_VALUE - 2) Bounds.is_entry_byte port.now }
 {
     !port.is_empty() && port.len() <= LONGEST_VALUE - 2 && are_entry_bytes(port)
 }

@@ -31,8 +31,10 @@ impl Sink for Copied {
     fn write(&mut self, piece: &[u8]) -> Result<(), SinkFailed>
         ensures ok { OnOk result (Gains (Some self.old.bytes.items) (Some self.new.bytes.items) piece.now) }
         ensures err { OnErr result (AppendsPart (Some self.old.bytes.items) (Some self.new.bytes.items) piece.now) }
-        ensures count { NeverFalls (if self.old.failed then 2 ^ 64 - 1 else 0) (if self.new.failed then 2 ^ 64 - 1 else 0) }
-        ensures cause { OnErr result (Rose (if self.old.failed then 2 ^ 64 - 1 else 0) (if self.new.failed then 2 ^ 64 - 1 else 0)) }
+        ensures count { NeverFalls (if self.old.failed then 2 ^ 64 - 1 else 0)
+            (if self.new.failed then 2 ^ 64 - 1 else 0) }
+        ensures cause { OnErr result (Rose (if self.old.failed then 2 ^ 64 - 1 else 0)
+            (if self.new.failed then 2 ^ 64 - 1 else 0)) }
     {
         if self.bytes.extend_from_slice(piece).is_ok() {
             Ok(())

@@ -6,6 +6,7 @@ ghost use Rattle.fnc_journal_reader.specs.Values as Values;
 
 use crate::cuts::{after, front};
 use crate::fault::EntryFault;
+use fnc_journal::limits::GREATEST_PRIORITY;
 use fnc_journal::{Actions, Allowed, Delay, LevelTarget, Pair, Parameter, Text};
 use fnc_text::{EscapeFault, read_number, unescape};
 use std::alloc::Global;
@@ -125,18 +126,16 @@ pub(crate) fn read_cap(text: &[u8]) -> Result<Option<u32>, EntryFault>
     Ok(Some(read_u32(text)?))
 }
 
-const HIGHEST_PRIORITY: u64 = 1_000_000;
-
 /// A priority.
 pub(crate) fn read_priority(text: &[u8]) -> Result<i32, EntryFault>
     ensures { result ≡ Values.priority_of text.now }
 {
     match text {
-        [b'-', digits @ ..] => match read_number(digits, HIGHEST_PRIORITY) {
+        [b'-', digits @ ..] => match read_number(digits, u64::from(GREATEST_PRIORITY)) {
             Some(n) => Ok(-(n as i32)),
             None => Err(EntryFault::Malformed),
         },
-        _ => match read_number(text, HIGHEST_PRIORITY) {
+        _ => match read_number(text, u64::from(GREATEST_PRIORITY)) {
             Some(n) => Ok(n as i32),
             None => Err(EntryFault::Malformed),
         },

@@ -4,7 +4,18 @@ use Rattle.std.specs.Fmt.{signed_decimal}
 use Rattle.std.specs.List.{flat_map}
 use Rattle.fnc_journal.specs.Line.{escaped}
 use Rattle.fnc_journal_text.specs.declared.parts.Part.{Part}
-use Rattle.fnc_journal_text.specs.Spelled.{actions_text, allowed_text, cap_text, scope_word, text_or_none, names_text, map_text, delays_text, parameters_text, own_text}
+use Rattle.fnc_journal_text.specs.Spelled.{
+  actions_text,
+  allowed_text,
+  cap_text,
+  scope_word,
+  text_or_none,
+  names_text,
+  map_text,
+  delays_text,
+  parameters_text,
+  own_text,
+}
 
 -- what is printed of a part
 abbrev pub part_text : Part → List ℕ

@@ -173,7 +173,8 @@ fn print_exit<K: Sink>(ended: &Ended, sink: &mut K) -> Result<(), SinkFailed>
 /// Prints that an operator confirms a node's state.
 fn print_confirm<K: Sink>(confirmation: &Confirmation, sink: &mut K) -> Result<(), SinkFailed>
     ensures ok { OnOk result (Gains (K.held sink.old) (K.held sink.new) (spaced (confirm_words confirmation.now))) }
-    ensures err { OnErr result (AppendsPart (K.held sink.old) (K.held sink.new) (spaced (confirm_words confirmation.now))) }
+    ensures err { OnErr result (AppendsPart (K.held sink.old) (K.held sink.new)
+        (spaced (confirm_words confirmation.now))) }
     ensures count { K.faults sink.old ≤ K.faults sink.new }
     ensures cause { OnErr result (Rose (K.faults sink.old) (K.faults sink.new)) }
 {

@@ -60,10 +60,12 @@ pub fn print_one<K: Sink>(entry: &Entry, sink: &mut K) -> Result<(), SinkFailed>
 /// lines of the entries before, it then holds this line too.
 pub fn print_entry<K: Sink>(journal: &Journal, index: u32, sink: &mut K) -> Result<(), SinkFailed>
     requires { index < length journal.now.history }
-    ensures grows { (start : Option (List ℕ)) → Gains start (K.held sink.old) (Paper.journal_text (prefix index journal.now.history))
+    ensures grows { (start : Option (List ℕ))
+        → Gains start (K.held sink.old) (Paper.journal_text (prefix index journal.now.history))
         → OnOk result (Gains start (K.held sink.new) (Paper.journal_text (prefix (index + 1) journal.now.history))) }
     ensures ok { OnOk result (Gains (K.held sink.old) (K.held sink.new) (Paper.line_at index journal.now.history)) }
-    ensures err { OnErr result (AppendsPart (K.held sink.old) (K.held sink.new) (Paper.line_at index journal.now.history)) }
+    ensures err { OnErr result (AppendsPart (K.held sink.old) (K.held sink.new)
+        (Paper.line_at index journal.now.history)) }
     ensures count { K.faults sink.old ≤ K.faults sink.new }
     ensures cause { OnErr result (Rose (K.faults sink.old) (K.faults sink.new)) }
 {

@@ -9,7 +9,8 @@ use Rattle.fnc_desk.proofs.Entering.{exit-alive, exit-unknown, lacks-after, next
 use Rattle.fnc_desk.proofs.input.end.Goals as goal
 
 pub refuse-requires-clause-number : goal.refuse-requires-clause-number
-refuse-requires-clause-number c = c.requires.number ∙ sym (next-after c.args.core.now c.exit.new.self c.args.moment c.in-Err.ensures.err)
+refuse-requires-clause-number c =
+    c.requires.number ∙ sym (next-after c.args.core.now c.exit.new.self c.args.moment c.in-Err.ensures.err)
 
 pub returns-in-Ok-clause-ok : goal.returns-in-Ok-clause-ok
 returns-in-Ok-clause-ok c =

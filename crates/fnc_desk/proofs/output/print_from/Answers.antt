@@ -35,4 +35,5 @@ returns-clause-ok g c =
     let h = c.args.journal.now.history in
     λ start before.
     subst (λ (p : History). Gains start (g.K.Sink.held c.loop-index.sink) (answers_text p))
-    (prefix-all h c.loop-index.index (omega (arith, c.loop-index-test.false, c.len-index-end.ensures))) (c.loop-index.invariant.printed start before)
+    (prefix-all h c.loop-index.index (omega (arith, c.loop-index-test.false, c.len-index-end.ensures)))
+    (c.loop-index.invariant.printed start before)

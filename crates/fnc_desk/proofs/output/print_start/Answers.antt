@@ -7,7 +7,8 @@ use Rattle.fnc_desk.proofs.output.print_start.Goals as goal
 
 pub returns-clause-ok : goal.returns-clause-ok
 returns-clause-ok g c =
-    subst (λ t. OnOk c.print_pieces.result (Gains (g.K.Sink.held c.args.sink.now) (g.K.Sink.held c.print_pieces.new.sink) t))
+    subst
+    (λ t. OnOk c.print_pieces.result (Gains (g.K.Sink.held c.args.sink.now) (g.K.Sink.held c.print_pieces.new.sink) t))
     (start-text c.args.start.now.run.0 c.from.result c.args.start.now.attempt c.args.start.now.kind c.name_of.result.now _
     c.word.result.now c.target_of.result.now _ c.name_of.ensures c.word.ensures c.target_of.ensures c.from.ensures)
     c.print_pieces.ensures.ok

@@ -19,7 +19,8 @@ pub loop-index-preserved : goal.loop-index-preserved
 loop-index-preserved c =
     let h = c.args.journal.now.history in
     let e = c.entry.result.now in
-    c.with-tally.ensures ∙ ap (λ t. tallied t e.event) c.loop-index.invariant ∙ tally-more e.moment e.event (prefix c.loop-index.index h)
+    c.with-tally.ensures ∙ ap (λ t. tallied t e.event) c.loop-index.invariant
+    ∙ tally-more e.moment e.event (prefix c.loop-index.index h)
     ∙ ap tally_of (sym (prefix-more h c.loop-index.index e (omega (arith, c.loop-index-test.true, c.len-index-end.ensures)) c.entry.ensures))
 
 pub returns : goal.returns

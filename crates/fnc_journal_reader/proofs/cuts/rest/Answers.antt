@@ -6,7 +6,9 @@ use Rattle.fnc_journal_reader.proofs.cuts.rest.Goals as goal
 pub loop-preserved : goal.loop-preserved
 loop-preserved c =
     record {
-      passed = words-passed c.loop.rest.now c.args.line.now c.after-rest.result.now c.loop.counter c.after-rest.ensures c.loop.invariant.passed;
+      passed =
+          words-passed c.loop.rest.now c.args.line.now c.after-rest.result.now c.loop.counter c.after-rest.ensures
+          c.loop.invariant.passed;
       within = omega (arith, c.loop-test.true);
     }
 

@@ -11,4 +11,5 @@ returns-then-is_name-clause-name c =
     let word = c.in_ok-word.word.now in
     let named : is_name word ≡ true = sym c.is_name.ensures ∙ c.if-is_name.true in
     let read = text-of (λ w. w.now) word c.from_utf8.result _ c.from_utf8.ensures.cases (name-utf8 word named) in
-    ap (option_map (λ w. w.now)) c.ok.ensures.value ∙ read ∙ sym (name-is word named) ∙ ap name_in c.in_ok-word.ensures.word
+    ap (option_map (λ w. w.now)) c.ok.ensures.value ∙ read ∙ sym (name-is word named)
+    ∙ ap name_in c.in_ok-word.ensures.word

@@ -1,12 +1,14 @@
-use crate::printing::{Piece, print_pieces};
-use crate::{print_end, print_from};
+// What is printed in pieces, and of a journal.
+
+use fnc_desk::{print_end, print_from};
 use fnc_journal::{Cause, Entry, Event, Journal, Refusal};
 use fnc_outside::{MemorySink, SinkFailed, Torn};
+use fnc_printing::{Piece, print_pieces};
 use std::test::Fail;
 
 #[test]
 fn pieces_are_printed_in_order(rt: HostRuntime) -> Result<(), Fail> {
-    let rows: [([Piece<'_>; 3], &[u8]); 4] = [
+    let rows: [([Piece<'_>; 3], &[u8]); 5] = [
         (
             [Piece::Word("start "), Piece::Number(0), Piece::Word(" ")],
             b"start 0 ",
@@ -30,6 +32,14 @@ fn pieces_are_printed_in_order(rt: HostRuntime) -> Result<(), Fail> {
                 Piece::Name("\u{1}\u{7f}"),
             ],
             b"%C3%A94294967295%01%7F",
+        ),
+        (
+            [
+                Piece::Signed(-1_000_000),
+                Piece::Signed(0),
+                Piece::Number(18_446_744_073_709_551_615),
+            ],
+            b"-1000000018446744073709551615",
         ),
     ];
     for (pieces, text) in rows {

@@ -1,4 +1,4 @@
--- The journals of a first session: there is one device at most, the plain one, and requests are for `off` alone.
+-- Plain journals: there is one device at most, the plain one, and requests are for `off` alone.
 -- Nothing was removed, described or confirmed, and no level was set.
 use Rattle.std.specs.Prelude.{ℕ, [], ◌∷◌, ◌≡◌}
 use Rattle.fnc_journal.specs.declared.definition.Definition.{Definition}
@@ -21,17 +21,17 @@ pub record IsPlainAsk (kind : Kind) (scope : Scope) (before : History) : Type 0 
   pub is_off : kind ≡ Kind.Off
   pub no_levels : scope ≡ Scope.Nothing
 
--- an entry of a first session, after those before it
-abbrev pub IsFirstEntry : Event → History → Type 0
-IsFirstEntry (Event.Device device) before = IsPlainDevice device.reg.0 device.registration.definition before
-IsFirstEntry (Event.Ask ask) before = IsPlainAsk ask.kind ask.scope before
-IsFirstEntry (Event.Exit ended) before = Unit {0}
-IsFirstEntry (Event.Refused refusal) before = Unit {0}
-IsFirstEntry (Event.Start start) before = Unit {0}
-IsFirstEntry (Event.Reply reply) before = Unit {0}
-IsFirstEntry _ before = ⊥
+-- an entry of a plain journal, after those before it
+abbrev pub IsPlainEntry : Event → History → Type 0
+IsPlainEntry (Event.Device device) before = IsPlainDevice device.reg.0 device.registration.definition before
+IsPlainEntry (Event.Ask ask) before = IsPlainAsk ask.kind ask.scope before
+IsPlainEntry (Event.Exit ended) before = Unit {0}
+IsPlainEntry (Event.Refused refusal) before = Unit {0}
+IsPlainEntry (Event.Start start) before = Unit {0}
+IsPlainEntry (Event.Reply reply) before = Unit {0}
+IsPlainEntry _ before = ⊥
 
--- the journal of a first session
-abbrev pub IsFirst : History → Type 0
-IsFirst [] = Unit {0}
-IsFirst (e ∷ before) = IsFirstEntry e.event before × IsFirst before
+-- the journal is plain
+abbrev pub IsPlainJournal : History → Type 0
+IsPlainJournal [] = Unit {0}
+IsPlainJournal (e ∷ before) = IsPlainEntry e.event before × IsPlainJournal before
