@@ -70,38 +70,48 @@ use Rattle.fnc_search.specs.Seen.{
 }
 
 pub slot-more : (o n m : ℕ) (event : Event) (h : History) →
-    or_here (slot_of_run n (acts o h)) (begun_slot o n event) ≡ slot_of_run n (acts o (record { moment = m; event = event } ∷ h))
+    or_here (slot_of_run n (acts o h)) (begun_slot o n event)
+        ≡ slot_of_run n (acts o (record { moment = m; event = event } ∷ h))
 slot-more o n m (Event.Start start) h = go (o == start.req.0) (n == start.run.0) refl
   where
-    go : (b c : Bool) → (n == start.run.0) ≡ c → or_here (slot_of_run n (acts o h)) (cond (b && c) (Some start.slot) None) ≡ slot_of_run n (cons_act (cond b (Some (Act.Begun m start.run.0 start.slot)) None) (acts o h))
+    go : (b c : Bool) → (n == start.run.0) ≡ c →
+        or_here (slot_of_run n (acts o h)) (cond (b && c) (Some start.slot) None)
+        ≡ slot_of_run n (cons_act (cond b (Some (Act.Begun m start.run.0 start.slot)) None) (acts o h))
     go true true p = rw p refl
     go true false p = rw p refl
     go false c p = refl
 slot-more o n m (Event.Exit ended) h = go (slot_of_run ended.run.0 (acts o h))
   where
-    go : (s : Option Slot) → slot_of_run n (acts o h) ≡ slot_of_run n (cons_act (option_map (λ slot. Act.Ended m slot ended.exit ended.listed) s) (acts o h))
+    go : (s : Option Slot) →
+        slot_of_run n (acts o h)
+        ≡ slot_of_run n (cons_act (option_map (λ slot. Act.Ended m slot ended.exit ended.listed) s) (acts o h))
     go None = refl
     go (Some s) = refl
 slot-more o n m _ h = refl
 
-seen-act : (t : Task) (over : ℕ) (xs : List Act) (a : Act) → seen_with t over (seen_of t over xs) (Some a) ≡ seen_of t over (a ∷ xs)
+seen-act : (t : Task) (over : ℕ) (xs : List Act) (a : Act) →
+    seen_with t over (seen_of t over xs) (Some a) ≡ seen_of t over (a ∷ xs)
 seen-act t over xs (Act.Begun m run slot) = go (same_slot t.slot slot) refl
   where
-    go : (b : Bool) → same_slot t.slot slot ≡ b → seen_with t over (seen_of t over xs) (Some (Act.Begun m run slot)) ≡ seen_of t over (Act.Begun m run slot ∷ xs)
+    go : (b : Bool) → same_slot t.slot slot ≡ b →
+        seen_with t over (seen_of t over xs) (Some (Act.Begun m run slot)) ≡ seen_of t over (Act.Begun m run slot ∷ xs)
     go true p = rw p refl
     go false p = rw p refl
 seen-act t over xs (Act.Ended m slot exit listed) =
     go (same_slot t.slot slot) refl (is_in_time_by t over (begun_at t.slot xs) m) refl (is_success t.kind exit) refl
   where
-    go : (b : Bool) → same_slot t.slot slot ≡ b → (c : Bool) → is_in_time_by t over (begun_at t.slot xs) m ≡ c → (d : Bool) → is_success t.kind exit ≡ d →
-        seen_with t over (seen_of t over xs) (Some (Act.Ended m slot exit listed)) ≡ seen_of t over (Act.Ended m slot exit listed ∷ xs)
+    go : (b : Bool) → same_slot t.slot slot ≡ b → (c : Bool) → is_in_time_by t over (begun_at t.slot xs) m ≡ c →
+        (d : Bool) → is_success t.kind exit ≡ d →
+        seen_with t over (seen_of t over xs) (Some (Act.Ended m slot exit listed))
+            ≡ seen_of t over (Act.Ended m slot exit listed ∷ xs)
     go false p c q d r = rw p refl
     go true p false q d r = rw (p, q) refl
     go true p true q true r = rw (p, q, r) refl
     go true p true q false r = rw (p, q, r) refl
 
 pub seen-more : (t : Task) (over o m : ℕ) (event : Event) (h : History) →
-    seen_with t over (seen_of t over (acts o h)) (act_here o m (acts o h) event) ≡ seen_of t over (acts o (record { moment = m; event = event } ∷ h))
+    seen_with t over (seen_of t over (acts o h)) (act_here o m (acts o h) event)
+        ≡ seen_of t over (acts o (record { moment = m; event = event } ∷ h))
 seen-more t over o m event h = go (act_here o m (acts o h) event)
   where
     go : (a : Option Act) → seen_with t over (seen_of t over (acts o h)) a ≡ seen_of t over (cons_act a (acts o h))
@@ -116,7 +126,8 @@ failed-most t over o (e ∷ before) = go (act_here o e.moment (acts o before) e.
     more true n l = omega arith
     more false n l = omega arith
 
-    go : (a : Option Act) → failed t over (acts o before) ≤ length before → failed t over (cons_act a (acts o before)) ≤ length (e ∷ before)
+    go : (a : Option Act) → failed t over (acts o before) ≤ length before →
+        failed t over (cons_act a (acts o before)) ≤ length (e ∷ before)
     go None l = omega arith
     go (Some a) l = more (fails_here t over (acts o before) a) (failed t over (acts o before)) l
 
@@ -125,7 +136,8 @@ pub succeeded-when : (t : Task) (over : ℕ) (xs : List Act) → has_succeeded t
 succeeded-when t over [] = refl
 succeeded-when t over (a ∷ xs) = go (succeeds_here t over xs a) (success_at t over xs) (succeeded-when t over xs)
   where
-    go : (b : Bool) (s : Option ℕ) → has_succeeded t over xs ≡ is_some s → (b || has_succeeded t over xs) ≡ is_some (or_here s (cond b (Some (moment_of a)) None))
+    go : (b : Bool) (s : Option ℕ) → has_succeeded t over xs ≡ is_some s →
+        (b || has_succeeded t over xs) ≡ is_some (or_here s (cond b (Some (moment_of a)) None))
     go true None p = refl
     go true (Some x) p = refl
     go false s p = p
@@ -137,7 +149,8 @@ answered_same t over xs = ap (λ b. is_query t && b) (sym (succeeded-when t over
 pub confirmed_same : (t : Task) (over : ℕ) (xs : List Act) → confirmed_by t (seen_of t over xs) ≡ confirmed t over xs
 confirmed_same t over xs = ap (λ b. not (is_query t) && b) (sym (succeeded-when t over xs))
 
-pub concluded_same : (t : Task) (over m : ℕ) (xs : List Act) → concluded_by t m (seen_of t over xs) ≡ concluded t over m xs
+pub concluded_same : (t : Task) (over m : ℕ) (xs : List Act) →
+    concluded_by t m (seen_of t over xs) ≡ concluded t over m xs
 concluded_same t over m xs = ap (λ b. b || spent t over m xs) (sym (succeeded-when t over xs))
 
 -- without a start the operation has no acts
@@ -155,9 +168,12 @@ pub acts-none : (o : ℕ) (h : History) → first_start_of o h ≡ None → acts
 acts-none o [] p = refl
 acts-none o (e ∷ before) p = go (first_start_of o before) refl (starts_for o e.event) refl p (acts-none o before)
   where
-    go : (x : Option ℕ) → first_start_of o before ≡ x → (b : Bool) → starts_for o e.event ≡ b → or_here x (cond b (Some (length before)) None) ≡ None →
-        (first_start_of o before ≡ None → acts o before ≡ []) → cons_act (act_here o e.moment (acts o before) e.event) (acts o before) ≡ []
-    go (Some n) q b r p ih = let none : Some n ≡ None = sym (some-earlier n (cond b (Some (length before)) None)) ∙ p in cc
+    go : (x : Option ℕ) → first_start_of o before ≡ x → (b : Bool) → starts_for o e.event ≡ b →
+        or_here x (cond b (Some (length before)) None) ≡ None →
+        (first_start_of o before ≡ None → acts o before ≡ []) →
+            cons_act (act_here o e.moment (acts o before) e.event) (acts o before) ≡ []
+    go (Some n) q b r p ih =
+        let none : Some n ≡ None = sym (some-earlier n (cond b (Some (length before)) None)) ∙ p in cc
     go None q true r p ih = cc
     go None q false r p ih = rw (ih q) (rw (act-none o e.moment e.event r) refl)
 
@@ -166,7 +182,8 @@ start-inside : (o n : ℕ) (h : History) → first_start_of o h ≡ Some n → n
 start-inside o n [] p = cc
 start-inside o n (e ∷ before) p = go (first_start_of o before) refl (starts_for o e.event) p (start-inside o n before)
   where
-    go : (x : Option ℕ) → first_start_of o before ≡ x → (b : Bool) → or_here x (cond b (Some (length before)) None) ≡ Some n →
+    go : (x : Option ℕ) → first_start_of o before ≡ x → (b : Bool) →
+        or_here x (cond b (Some (length before)) None) ≡ Some n →
         (first_start_of o before ≡ Some n → n < length before) → n < length (e ∷ before)
     go (Some k) q b p ih =
         let same : Some k ≡ Some n = sym (some-earlier k (cond b (Some (length before)) None)) ∙ p in
@@ -179,13 +196,16 @@ pub acts-before : (o n : ℕ) (h : History) → first_start_of o h ≡ Some n �
 acts-before o n [] p = refl
 acts-before o n (e ∷ before) p = go (first_start_of o before) refl (starts_for o e.event) p (acts-before o n before)
   where
-    go : (x : Option ℕ) → first_start_of o before ≡ x → (b : Bool) → or_here x (cond b (Some (length before)) None) ≡ Some n →
-        (first_start_of o before ≡ Some n → acts o (prefix n before) ≡ []) → acts o (cond (ltb (length before) n) (e ∷ before) (prefix n before)) ≡ []
+    go : (x : Option ℕ) → first_start_of o before ≡ x → (b : Bool) →
+        or_here x (cond b (Some (length before)) None) ≡ Some n →
+        (first_start_of o before ≡ Some n → acts o (prefix n before) ≡ []) →
+            acts o (cond (ltb (length before) n) (e ∷ before) (prefix n before)) ≡ []
     go (Some k) q b p ih =
         let same : Some k ≡ Some n = sym (some-earlier k (cond b (Some (length before)) None)) ∙ p in
         let less : n < length before = start-inside o n before (q ∙ same) in
         rw (le-ltb (length before) n (omega (arith, less))) (ih (q ∙ same))
     go None q true p ih =
         let same : length before ≡ n = cc in
-        rw (le-ltb (length before) n (omega (arith, same)), prefix-all before n (omega (arith, same))) (acts-none o before q)
+        rw (le-ltb (length before) n (omega (arith, same)), prefix-all before n (omega (arith, same)))
+            (acts-none o before q)
     go None q false p ih = cc

@@ -16,7 +16,8 @@ least-assoc (Some x) None z = refl
 least-assoc (Some x) (Some y) None = refl
 least-assoc (Some x) (Some y) (Some z) = let same : min (min x y) z ≡ min x (min y z) = omega arith in ap Some same
 
-pub oldest-more : (least : Option ℕ) (l : Option Level) (ls : List Level) → least_of (oldest_with least l) (oldest ls) ≡ least_of least (oldest (before_it l ls))
+pub oldest-more : (least : Option ℕ) (l : Option Level) (ls : List Level) →
+    least_of (oldest_with least l) (oldest ls) ≡ least_of least (oldest (before_it l ls))
 oldest-more least None ls = refl
 oldest-more least (Some l) ls = least-assoc least (Some l.at) (oldest ls)
 

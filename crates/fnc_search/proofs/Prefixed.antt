@@ -31,7 +31,8 @@ pub prefix-most : (h : History) (n : ℕ) → length (prefix n h) ≤ n
 prefix-most [] n = omega arith
 prefix-most (e ∷ before) n = go (ltb (length before) n) refl (prefix-most before n)
   where
-    go : (b : Bool) → ltb (length before) n ≡ b → length (prefix n before) ≤ n → length (cond b (e ∷ before) (prefix n before)) ≤ n
+    go : (b : Bool) → ltb (length before) n ≡ b → length (prefix n before) ≤ n →
+        length (cond b (e ∷ before) (prefix n before)) ≤ n
     go true k ih = let less : length before < n = ltb-true (length before) n k in omega (arith, less)
     go false k ih = ih
 
@@ -39,7 +40,8 @@ pub prefix-shorter : (n : ℕ) (h : History) → length (prefix n h) ≤ length 
 prefix-shorter n [] = omega arith
 prefix-shorter n (e ∷ before) = go (ltb (length before) n) (prefix-shorter n before)
   where
-    go : (b : Bool) → length (prefix n before) ≤ length before → length (cond b (e ∷ before) (prefix n before)) ≤ length (e ∷ before)
+    go : (b : Bool) → length (prefix n before) ≤ length before →
+        length (cond b (e ∷ before) (prefix n before)) ≤ length (e ∷ before)
     go true k = omega arith
     go false k = omega arith
 
@@ -49,7 +51,8 @@ entry_at-prefix [] n i l = refl
 entry_at-prefix (e ∷ before) n i l = go (ltb (length before) n) refl l (λ k. entry_at-prefix before n i k)
   where
     go : (b : Bool) → ltb (length before) n ≡ b → i < length (cond b (e ∷ before) (prefix n before)) →
-        (i < length (prefix n before) → entry_at i (prefix n before) ≡ entry_at i before) → entry_at i (cond b (e ∷ before) (prefix n before)) ≡ entry_at i (e ∷ before)
+        (i < length (prefix n before) → entry_at i (prefix n before) ≡ entry_at i before) →
+            entry_at i (cond b (e ∷ before) (prefix n before)) ≡ entry_at i (e ∷ before)
     go true k l ih = refl
     go false k l ih =
         let short : length (prefix n before) ≤ length before = prefix-shorter n before in
@@ -60,7 +63,8 @@ pub prefix-length : (h : History) (n : ℕ) → n ≤ length h → length (prefi
 prefix-length [] n l = omega arith
 prefix-length (e ∷ before) n l = go (ltb (length before) n) refl (λ k. prefix-length before n k)
   where
-    go : (b : Bool) → ltb (length before) n ≡ b → (n ≤ length before → length (prefix n before) ≡ n) → length (cond b (e ∷ before) (prefix n before)) ≡ n
+    go : (b : Bool) → ltb (length before) n ≡ b → (n ≤ length before → length (prefix n before) ≡ n) →
+        length (cond b (e ∷ before) (prefix n before)) ≡ n
     go true k ih = let less : length before < n = ltb-true (length before) n k in omega arith
     go false k ih = let most : n ≤ length before = ltb-false (length before) n k in ih most
 
@@ -69,11 +73,16 @@ pub prefix-prefix : (h : History) (n i : ℕ) → i ≤ n → prefix i (prefix n
 prefix-prefix [] n i l = refl
 prefix-prefix (e ∷ before) n i l = go (ltb (length before) n) refl (prefix-prefix before n i l)
   where
-    go : (b : Bool) → ltb (length before) n ≡ b → prefix i (prefix n before) ≡ prefix i before → prefix i (cond b (e ∷ before) (prefix n before)) ≡ prefix i (e ∷ before)
+    go : (b : Bool) → ltb (length before) n ≡ b → prefix i (prefix n before) ≡ prefix i before →
+        prefix i (cond b (e ∷ before) (prefix n before)) ≡ prefix i (e ∷ before)
     go true k ih = refl
-    go false k ih = let most : n ≤ length before = ltb-false (length before) n k in ih ∙ sym (rw (le-ltb (length before) i (omega arith)) refl)
+    go false k ih =
+        let most : n ≤ length before = ltb-false (length before) n k in ih
+        ∙ sym (rw (le-ltb (length before) i (omega arith)) refl)
 
 -- there is no entry past the end
 pub entry_at-past : (h : History) (n : ℕ) → length h ≤ n → entry_at n h ≡ None
 entry_at-past [] n l = refl
-entry_at-past (e ∷ before) n l = let other : (n == length before) ≡ false = ne_eqb n (length before) (λ p. omega arith) in rw other (entry_at-past before n (omega arith))
+entry_at-past (e ∷ before) n l =
+    let other : (n == length before) ≡ false = ne_eqb n (length before) (λ p. omega arith) in
+    rw other (entry_at-past before n (omega arith))

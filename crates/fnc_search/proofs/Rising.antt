@@ -55,14 +55,19 @@ of_index i ls = find (λ (l : Level). i == l.index) ls
 
 above-none : (i : ℕ) (ls : List Level) → Above i ls → of_index i ls ≡ None
 above-none i [] a = refl
-above-none i (k ∷ ks) a = let other : (i == k.index) ≡ false = ne_eqb i k.index (λ p. omega (arith, p, a.0)) in rw other (above-none i ks a.1)
+above-none i (k ∷ ks) a =
+    let other : (i == k.index) ≡ false = ne_eqb i k.index (λ p. omega (arith, p, a.0)) in rw other (above-none i ks a.1)
 
-find-with : (i : ℕ) (l : Level) (ls : List Level) → of_index i (with_level l ls) ≡ cond (i == l.index) (Some l) (of_index i ls)
+find-with : (i : ℕ) (l : Level) (ls : List Level) →
+    of_index i (with_level l ls) ≡ cond (i == l.index) (Some l) (of_index i ls)
 find-with i l [] = refl
-find-with i l (k ∷ ks) = go (ltb l.index k.index) (l.index == k.index) refl (i == l.index) refl (i == k.index) refl (find-with i l ks)
+find-with i l (k ∷ ks) =
+    go (ltb l.index k.index) (l.index == k.index) refl (i == l.index) refl (i == k.index) refl (find-with i l ks)
   where
-    go : (b c : Bool) → (l.index == k.index) ≡ c → (d : Bool) → (i == l.index) ≡ d → (e : Bool) → (i == k.index) ≡ e → of_index i (with_level l ks) ≡ cond (i == l.index) (Some l) (of_index i ks) →
-        of_index i (cond b (l ∷ k ∷ ks) (cond c (l ∷ ks) (k ∷ with_level l ks))) ≡ cond d (Some l) (cond e (Some k) (of_index i ks))
+    go : (b c : Bool) → (l.index == k.index) ≡ c → (d : Bool) → (i == l.index) ≡ d → (e : Bool) → (i == k.index) ≡ e →
+        of_index i (with_level l ks) ≡ cond (i == l.index) (Some l) (of_index i ks) →
+        of_index i (cond b (l ∷ k ∷ ks) (cond c (l ∷ ks) (k ∷ with_level l ks)))
+            ≡ cond d (Some l) (cond e (Some k) (of_index i ks))
     go true c p true q e s ih = rw q refl
     go true c p false q e s ih = rw (q, s) refl
     go false true p true q e s ih = rw q refl
@@ -78,41 +83,58 @@ find-with i l (k ∷ ks) = go (ltb l.index k.index) (l.index == k.index) refl (i
     go false false p false q true s ih = rw s refl
     go false false p false q false s ih = rw s (ih ∙ rw q refl)
 
-find-without : (i index : ℕ) (ls : List Level) → Rising ls → of_index i (without_level index ls) ≡ cond (i == index) None (of_index i ls)
+find-without : (i index : ℕ) (ls : List Level) → Rising ls →
+    of_index i (without_level index ls) ≡ cond (i == index) None (of_index i ls)
 find-without i index [] r = go (i == index)
   where
     go : (b : Bool) → of_index i [] ≡ cond b None (of_index i [])
     go true = refl
     go false = refl
-find-without i index (k ∷ ks) r = go (index == k.index) refl (i == index) refl (i == k.index) refl (find-without i index ks r.1)
+find-without i index (k ∷ ks) r =
+    go (index == k.index) refl (i == index) refl (i == k.index) refl (find-without i index ks r.1)
   where
-    go : (b : Bool) → (index == k.index) ≡ b → (d : Bool) → (i == index) ≡ d → (e : Bool) → (i == k.index) ≡ e → of_index i (without_level index ks) ≡ cond (i == index) None (of_index i ks) →
+    go : (b : Bool) → (index == k.index) ≡ b → (d : Bool) → (i == index) ≡ d → (e : Bool) → (i == k.index) ≡ e →
+        of_index i (without_level index ks) ≡ cond (i == index) None (of_index i ks) →
         of_index i (cond b ks (k ∷ without_level index ks)) ≡ cond d None (cond e (Some k) (of_index i ks))
     go true p true q e s ih =
         let same : k.index ≡ i = sym (eqb-true i index q ∙ eqb-true index k.index p) in
         above-none i ks (subst (λ n. Above n ks) same r.0)
-    go true p false q true s ih = absurd (false-eqb i index (sym q) (eqb-true i k.index s ∙ sym (eqb-true index k.index p)))
+    go true p false q true s ih =
+        absurd (false-eqb i index (sym q) (eqb-true i k.index s ∙ sym (eqb-true index k.index p)))
     go true p false q false s ih = refl
-    go false p true q true s ih = absurd (false-eqb index k.index (sym p) (sym (eqb-true i index q) ∙ eqb-true i k.index s))
+    go false p true q true s ih =
+        absurd (false-eqb index k.index (sym p) (sym (eqb-true i index q) ∙ eqb-true i k.index s))
     go false p true q false s ih = rw s (ih ∙ rw q refl)
     go false p false q true s ih = rw s refl
     go false p false q false s ih = rw s (ih ∙ rw q refl)
 
 -- the level of an index, one entry after another
 pub level-more : (target : LevelTarget) (i m : ℕ) (event : Event) (h : History) →
-    level_step target i (length h) event (of_index i (levels target h)) ≡ of_index i (levels target (record { moment = m; event = event } ∷ h))
-level-more target i m (Event.Level set) h = go (same_target target set.target) (i == set.index) (find-with i (record { at = length h; index = set.index; devices = set.devices }) (levels target h))
+    level_step target i (length h) event (of_index i (levels target h))
+        ≡ of_index i (levels target (record { moment = m; event = event } ∷ h))
+level-more target i m (Event.Level set) h =
+    go (same_target target set.target) (i == set.index)
+    (find-with i (record { at = length h; index = set.index; devices = set.devices }) (levels target h))
   where
-    go : (b c : Bool) → of_index i (with_level (record { at = length h; index = set.index; devices = set.devices }) (levels target h)) ≡ cond c (Some (record { at = length h; index = set.index; devices = set.devices })) (of_index i (levels target h)) →
-        cond (b && c) (Some (record { at = length h; index = set.index; devices = set.devices })) (of_index i (levels target h))
-        ≡ of_index i (cond b (with_level (record { at = length h; index = set.index; devices = set.devices }) (levels target h)) (levels target h))
+    go : (b c : Bool) → of_index i
+        (with_level (record { at = length h; index = set.index; devices = set.devices }) (levels target h))
+        ≡ cond c (Some (record { at = length h; index = set.index; devices = set.devices }))
+        (of_index i (levels target h)) →
+        cond (b && c) (Some (record { at = length h; index = set.index; devices = set.devices }))
+            (of_index i (levels target h))
+        ≡ of_index i (cond b (with_level (record { at = length h; index = set.index; devices = set.devices })
+            (levels target h)) (levels target h))
     go true true f = sym f
     go true false f = sym f
     go false c f = refl
-level-more target i m (Event.LevelGone cleared) h = go (same_target target cleared.target) (i == cleared.index) (find-without i cleared.index (levels target h) (levels-rising target h))
+level-more target i m (Event.LevelGone cleared) h =
+    go (same_target target cleared.target) (i == cleared.index)
+    (find-without i cleared.index (levels target h) (levels-rising target h))
   where
-    go : (b c : Bool) → of_index i (without_level cleared.index (levels target h)) ≡ cond c None (of_index i (levels target h)) →
-        cond (b && c) None (of_index i (levels target h)) ≡ of_index i (cond b (without_level cleared.index (levels target h)) (levels target h))
+    go : (b c : Bool) → of_index i (without_level cleared.index (levels target h))
+        ≡ cond c None (of_index i (levels target h)) →
+        cond (b && c) None (of_index i (levels target h))
+            ≡ of_index i (cond b (without_level cleared.index (levels target h)) (levels target h))
     go true true f = sym f
     go true false f = sym f
     go false c f = refl
@@ -126,7 +148,8 @@ below-with : (n : ℕ) (l : Level) (ls : List Level) → l.index < n → Below n
 below-with n l [] less a = (less, tt)
 below-with n l (k ∷ ks) less a = go (ltb l.index k.index) (l.index == k.index) (below-with n l ks less a.1)
   where
-    go : (b c : Bool) → Below n (with_level l ks) → Below n (cond b (l ∷ k ∷ ks) (cond c (l ∷ ks) (k ∷ with_level l ks)))
+    go : (b c : Bool) → Below n (with_level l ks) →
+        Below n (cond b (l ∷ k ∷ ks) (cond c (l ∷ ks) (k ∷ with_level l ks)))
     go true c ih = (less, a)
     go false true ih = (less, a.1)
     go false false ih = (a.0, ih)
@@ -140,23 +163,33 @@ below-without n index (k ∷ ks) a = go (index == k.index) (below-without n inde
     go false ih = (a.0, ih)
 
 below-higher : (n m : ℕ) (ls : List Level) → n ≤ m → Below n ls → Below m ls
-below-higher n m ls l a = each-map (λ (k : Level). k.index < n) (λ (k : Level). k.index < m) ls (λ k p. omega (arith, l, p)) a
+below-higher n m ls l a =
+    each-map (λ (k : Level). k.index < n) (λ (k : Level). k.index < m) ls (λ k p. omega (arith, l, p)) a
 
 pub below-top : (target : LevelTarget) (h : History) → Below (top target h) (levels target h)
 below-top target [] = tt
 below-top target (e ∷ before) = go e.event (below-top target before)
   where
     go : (event : Event) → Below (top target before) (levels target before) →
-        Below (max (top_here target event) (top target before)) (levels_after target (length before) event (levels target before))
+        Below (max (top_here target event) (top target before))
+            (levels_after target (length before) event (levels target before))
     go (Event.Level set_) r = set (same_target target set_.target) r
       where
         set : (b : Bool) → Below (top target before) (levels target before) →
-            Below (max (cond b (set_.index + 1) 0) (top target before)) (cond b (with_level (record { at = length before; index = set_.index; devices = set_.devices }) (levels target before)) (levels target before))
-        set true r = below-with _ _ (levels target before) (omega arith) (below-higher _ _ (levels target before) (omega arith) r)
+            Below (max (cond b (set_.index + 1) 0) (top target before))
+                (cond b (with_level (record { at = length before; index = set_.index; devices = set_.devices })
+                (levels target before)) (levels target before))
+        set true r =
+            below-with _ _ (levels target before) (omega arith)
+            (below-higher _ _ (levels target before) (omega arith) r)
         set false r = below-higher _ _ (levels target before) (omega arith) r
-    go (Event.LevelGone cleared) r = gone (same_target target cleared.target) (below-higher _ (max 0 (top target before)) (levels target before) (omega arith) r)
+    go (Event.LevelGone cleared) r =
+        gone (same_target target cleared.target)
+        (below-higher _ (max 0 (top target before)) (levels target before) (omega arith) r)
       where
-        gone : (b : Bool) → Below (max 0 (top target before)) (levels target before) → Below (max 0 (top target before)) (cond b (without_level cleared.index (levels target before)) (levels target before))
+        gone : (b : Bool) → Below (max 0 (top target before)) (levels target before) →
+            Below (max 0 (top target before))
+            (cond b (without_level cleared.index (levels target before)) (levels target before))
         gone true r = below-without _ cleared.index (levels target before) r
         gone false r = r
     go _ r = below-higher _ _ (levels target before) (omega arith) r
@@ -183,13 +216,17 @@ pub from-more : (i : ℕ) (ls : List Level) → Rising ls → from i ls ≡ befo
 from-more i [] r = refl
 from-more i (k ∷ ks) r = go (ltb k.index i) refl (i == k.index) refl (from-more i ks r.1)
   where
-    go : (b : Bool) → ltb k.index i ≡ b → (c : Bool) → (i == k.index) ≡ c → from i ks ≡ before_it (of_index i ks) (from (i + 1) ks) →
+    go : (b : Bool) → ltb k.index i ≡ b → (c : Bool) → (i == k.index) ≡ c →
+        from i ks ≡ before_it (of_index i ks) (from (i + 1) ks) →
         cond b (from i ks) (k ∷ ks) ≡ before_it (cond c (Some k) (of_index i ks)) (from (i + 1) (k ∷ ks))
-    go true p true q ih = let less : k.index < i = ltb-true k.index i p in absurd (omega (arith, less, eqb-true i k.index q))
-    go true p false q ih = let less : k.index < i = ltb-true k.index i p in rw (lt-ltb k.index (i + 1) (omega (arith, less))) ih
+    go true p true q ih =
+        let less : k.index < i = ltb-true k.index i p in absurd (omega (arith, less, eqb-true i k.index q))
+    go true p false q ih =
+        let less : k.index < i = ltb-true k.index i p in rw (lt-ltb k.index (i + 1) (omega (arith, less))) ih
     go false p true q ih =
         let same : i ≡ k.index = eqb-true i k.index q in
-        rw (lt-ltb k.index (i + 1) (omega (arith, same))) (ap (λ xs. k ∷ xs) (sym (from-above i ks (subst (λ n. Above n ks) (sym same) r.0))))
+        rw (lt-ltb k.index (i + 1) (omega (arith, same)))
+            (ap (λ xs. k ∷ xs) (sym (from-above i ks (subst (λ n. Above n ks) (sym same) r.0))))
     go false p false q ih =
         let most : i ≤ k.index = ltb-false k.index i p in
         let other : i ≡ k.index → ⊥ = false-eqb i k.index (sym q) in
@@ -197,4 +234,5 @@ from-more i (k ∷ ks) r = go (ltb k.index i) refl (i == k.index) refl (from-mor
         rw (le-ltb k.index (i + 1) (omega (arith, less)), above-none i ks (above-higher i k.index ks less r.0)) refl
 
 pub from-past : (n : ℕ) (target : LevelTarget) (h : History) → top target h ≤ n → from n (levels target h) ≡ []
-from-past n target h l = from-all n (levels target h) (below-higher (top target h) n (levels target h) l (below-top target h))
+from-past n target h l =
+    from-all n (levels target h) (below-higher (top target h) n (levels target h) l (below-top target h))

@@ -36,16 +36,19 @@ stays : {X : Type 0} (s : History → X) (v : X) → Keeps s v → (h : History)
 stays s v kept [] n p = p
 stays s v kept (e ∷ before) n p = go (ltb (length before) n) p (λ q. stays s v kept before n q)
   where
-    go : (b : Bool) → s (cond b (e ∷ before) (prefix n before)) ≡ v → (s (prefix n before) ≡ v → s before ≡ v) → s (e ∷ before) ≡ v
+    go : (b : Bool) → s (cond b (e ∷ before) (prefix n before)) ≡ v → (s (prefix n before) ≡ v → s before ≡ v) →
+        s (e ∷ before) ≡ v
     go true q ih = q
     go false q ih = kept e before (ih q)
 
 -- one entry further
-pub goes-on : {X : Type 0} (s : History → X) (v : X) (h : History) (n : ℕ) (e : Entry) → n < length h → entry_at n h ≡ Some e → s (e ∷ prefix n h) ≡ v → s (prefix (n + 1) h) ≡ v
+pub goes-on : {X : Type 0} (s : History → X) (v : X) (h : History) (n : ℕ) (e : Entry) → n < length h →
+    entry_at n h ≡ Some e → s (e ∷ prefix n h) ≡ v → s (prefix (n + 1) h) ≡ v
 goes-on s v h n e less here p = ap s (prefix-more h n e less here) ∙ p
 
 -- at an entry after which no later one matters
-pub stops : {X : Type 0} (s : History → X) (v : X) → Keeps s v → (h : History) (n : ℕ) (e : Entry) → n < length h → entry_at n h ≡ Some e → s (e ∷ prefix n h) ≡ v → s h ≡ v
+pub stops : {X : Type 0} (s : History → X) (v : X) → Keeps s v → (h : History) (n : ℕ) (e : Entry) → n < length h →
+    entry_at n h ≡ Some e → s (e ∷ prefix n h) ≡ v → s h ≡ v
 stops s v kept h n e less here p = stays s v kept h (n + 1) (goes-on s v h n e less here p)
 
 -- where nothing was found earlier it is what is found here

@@ -16,8 +16,10 @@ returns-in-Some c =
     let e = c.entry.result.now in
     let x = c.in-Some.start in
     let here : started_here n e.event ≡ Some x = sym c.started_here.ensures ∙ c.in-Some.is in
-    let found : started n (e ∷ prefix c.loop-i.i h) ≡ Some x = or-first (started n (prefix c.loop-i.i h)) (started_here n e.event) (Some x) c.loop-i.invariant here in
-    sym (stops (started n) (Some x) (λ d k p. or-kept x (started n k) (started_here n d.event) p) h c.loop-i.i e (omega (arith, c.loop-i-test.true, c.len-i-end.ensures)) c.entry.ensures found)
+    let found : started n (e ∷ prefix c.loop-i.i h) ≡ Some x =
+        or-first (started n (prefix c.loop-i.i h)) (started_here n e.event) (Some x) c.loop-i.invariant here in
+    sym (stops (started n) (Some x) (λ d k p. or-kept x (started n k) (started_here n d.event) p) h c.loop-i.i e
+        (omega (arith, c.loop-i-test.true, c.len-i-end.ensures)) c.entry.ensures found)
 
 pub loop-i-preserved : goal.loop-i-preserved
 loop-i-preserved c =
@@ -25,7 +27,10 @@ loop-i-preserved c =
     let n = c.args.run in
     let e = c.entry.result.now in
     let here : started_here n e.event ≡ None = sym c.started_here.ensures ∙ c.in_default.is in
-    goes-on (started n) None h c.loop-i.i e (omega (arith, c.loop-i-test.true, c.len-i-end.ensures)) c.entry.ensures (or-first (started n (prefix c.loop-i.i h)) (started_here n e.event) None c.loop-i.invariant here)
+    goes-on (started n) None h c.loop-i.i e (omega (arith, c.loop-i-test.true, c.len-i-end.ensures)) c.entry.ensures
+        (or-first (started n (prefix c.loop-i.i h)) (started_here n e.event) None c.loop-i.invariant here)
 
 pub returns : goal.returns
-returns c = sym c.loop-i.invariant ∙ ap (started c.args.run) (prefix-all c.args.past.now c.loop-i.i (omega (arith, c.loop-i-test.false, c.len-i-end.ensures)))
+returns c =
+    sym c.loop-i.invariant ∙ ap (started c.args.run)
+    (prefix-all c.args.past.now c.loop-i.i (omega (arith, c.loop-i-test.false, c.len-i-end.ensures)))

@@ -15,7 +15,8 @@ loop-index-preserved c =
     let ls = levels c.args.target.now c.args.past.now in
     let rest = from (c.loop-index.index + 1) ls in
     c.loop-index.invariant
-    ∙ ap (λ xs. least_of c.loop-index.least (oldest xs)) (from-more c.loop-index.index ls (levels-rising c.args.target.now c.args.past.now))
+    ∙ ap (λ xs. least_of c.loop-index.least (oldest xs))
+        (from-more c.loop-index.index ls (levels-rising c.args.target.now c.args.past.now))
     ∙ sym (oldest-more c.loop-index.least _ rest)
     ∙ ap (λ (x : Option Level). least_of (oldest_with c.loop-index.least x) (oldest rest)) (sym c.level_of.ensures)
     ∙ ap (λ (x : Option ℕ). least_of x (oldest rest)) (sym c.with_oldest-least.ensures)
@@ -23,5 +24,8 @@ loop-index-preserved c =
 pub returns : goal.returns
 returns c =
     let ls = levels c.args.target.now c.args.past.now in
-    let end : from c.loop-index.index ls ≡ [] = from-past c.loop-index.index c.args.target.now c.args.past.now (omega (arith, c.loop-index-test.false, c.top_of-index-end.ensures)) in
-    sym (c.loop-index.invariant ∙ ap (λ xs. least_of c.loop-index.least (oldest xs)) end ∙ oldest-last c.loop-index.least)
+    let end : from c.loop-index.index ls ≡ [] =
+        from-past c.loop-index.index c.args.target.now c.args.past.now
+        (omega (arith, c.loop-index-test.false, c.top_of-index-end.ensures)) in
+    sym (c.loop-index.invariant ∙ ap (λ xs. least_of c.loop-index.least (oldest xs)) end
+        ∙ oldest-last c.loop-index.least)

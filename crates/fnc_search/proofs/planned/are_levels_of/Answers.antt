@@ -9,7 +9,8 @@ use Rattle.fnc_search.proofs.Writing.{written-before, levels-over}
 use Rattle.fnc_search.proofs.planned.are_levels_of.Goals as goal
 
 pub loop-index-init : goal.loop-index-init
-loop-index-init c = λ e. e ∙ ap (map (plan_level c.args.before.now)) (from-none (levels c.args.target.now c.args.before.now))
+loop-index-init c =
+    λ e. e ∙ ap (map (plan_level c.args.before.now)) (from-none (levels c.args.target.now c.args.before.now))
 
 pub loop-index-preserved : goal.loop-index-preserved
 loop-index-preserved c = λ e.
@@ -26,6 +27,8 @@ loop-index-preserved c = λ e.
 pub returns : goal.returns
 returns c =
     let h = c.args.before.now in
-    levels-over h c.loop-index.rest.now (from c.loop-index.index (levels c.args.target.now h)) c.is_empty.result c.is_empty.ensures
-    (from-past c.loop-index.index c.args.target.now h (omega (arith, c.top_of-index-end.ensures, c.loop-index-test.false)))
+    levels-over h c.loop-index.rest.now
+        (from c.loop-index.index (levels c.args.target.now h)) c.is_empty.result c.is_empty.ensures
+    (from-past c.loop-index.index c.args.target.now h
+        (omega (arith, c.top_of-index-end.ensures, c.loop-index-test.false)))
     c.loop-index.invariant

@@ -12,7 +12,10 @@ loop-i-preserved c =
     let h : History = c.args.past.now in
     let e = c.entry.result.now in
     c.current_after-found.ensures ∙ ap (λ a. current_after c.args.name.now e.event a) c.loop-i.invariant
-    ∙ ap (λ (k : History). current c.args.name.now k) (sym (prefix-more h c.loop-i.i e (omega (arith, c.loop-i-test.true, c.len-i-end.ensures)) c.entry.ensures))
+    ∙ ap (λ (k : History). current c.args.name.now k)
+        (sym (prefix-more h c.loop-i.i e (omega (arith, c.loop-i-test.true, c.len-i-end.ensures)) c.entry.ensures))
 
 pub returns : goal.returns
-returns c = c.loop-i.invariant ∙ ap (λ (k : History). current c.args.name.now k) (prefix-all c.args.past.now c.loop-i.i (omega (arith, c.loop-i-test.false, c.len-i-end.ensures)))
+returns c =
+    c.loop-i.invariant ∙ ap (λ (k : History). current c.args.name.now k)
+    (prefix-all c.args.past.now c.loop-i.i (omega (arith, c.loop-i-test.false, c.len-i-end.ensures)))

@@ -12,8 +12,12 @@ pub loop-i-preserved : goal.loop-i-preserved
 loop-i-preserved c =
     let h : History = c.args.past.now in
     let e = c.entry.result.now in
-    c.least_of-least.ensures ∙ ap (λ x. least_of x c.loop-i.least) c.named_here.ensures ∙ ap (λ a. least_of (named_here c.args.name.now e.event) a) c.loop-i.invariant
-    ∙ ap (λ (k : History). least_registration c.args.name.now k) (sym (prefix-more h c.loop-i.i e (omega (arith, c.loop-i-test.true, c.len-i-end.ensures)) c.entry.ensures))
+    c.least_of-least.ensures ∙ ap (λ x. least_of x c.loop-i.least) c.named_here.ensures
+        ∙ ap (λ a. least_of (named_here c.args.name.now e.event) a) c.loop-i.invariant
+    ∙ ap (λ (k : History). least_registration c.args.name.now k)
+        (sym (prefix-more h c.loop-i.i e (omega (arith, c.loop-i-test.true, c.len-i-end.ensures)) c.entry.ensures))
 
 pub returns : goal.returns
-returns c = c.loop-i.invariant ∙ ap (λ (k : History). least_registration c.args.name.now k) (prefix-all c.args.past.now c.loop-i.i (omega (arith, c.loop-i-test.false, c.len-i-end.ensures)))
+returns c =
+    c.loop-i.invariant ∙ ap (λ (k : History). least_registration c.args.name.now k)
+    (prefix-all c.args.past.now c.loop-i.i (omega (arith, c.loop-i-test.false, c.len-i-end.ensures)))

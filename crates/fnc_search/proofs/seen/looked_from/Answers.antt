@@ -10,7 +10,8 @@ use Rattle.fnc_search.proofs.Looks.{seen-more, failed-most}
 use Rattle.fnc_search.proofs.seen.looked_from.Goals as goal
 
 pub loop-i-init : goal.loop-i-init
-loop-i-init c = c.nothing-found.ensures c.args.task.now c.args.over ∙ ap (seen_of c.args.task.now c.args.over) (sym c.requires)
+loop-i-init c =
+    c.nothing-found.ensures c.args.task.now c.args.over ∙ ap (seen_of c.args.task.now c.args.over) (sym c.requires)
 
 pub after-found-requires : goal.after-found-requires
 after-found-requires c =
@@ -24,8 +25,16 @@ pub loop-i-preserved : goal.loop-i-preserved
 loop-i-preserved c =
     let h : History = c.args.past.now in
     let e = c.entry.result.now in
-    c.after-found.ensures ∙ ap (λ (b : History). seen_with c.args.task.now c.args.over c.loop-i.found (act_here c.args.req e.moment (acts c.args.req b) e.event)) c.before-in-loop-i.ensures ∙ ap (λ (a : Seen). seen_with c.args.task.now c.args.over a (act_here c.args.req e.moment (acts c.args.req (prefix c.loop-i.i h)) e.event)) c.loop-i.invariant ∙ seen-more c.args.task.now c.args.over c.args.req e.moment e.event (prefix c.loop-i.i h)
-    ∙ ap (λ (k : History). seen_of c.args.task.now c.args.over (acts c.args.req k)) (sym (prefix-more h c.loop-i.i e (omega (arith, c.loop-i-test.true, c.len-i-end.ensures)) c.entry.ensures))
+    c.after-found.ensures ∙ ap
+        (λ (b : History). seen_with c.args.task.now c.args.over c.loop-i.found
+        (act_here c.args.req e.moment (acts c.args.req b) e.event)) c.before-in-loop-i.ensures
+        ∙ ap (λ (a : Seen). seen_with c.args.task.now c.args.over a
+        (act_here c.args.req e.moment (acts c.args.req (prefix c.loop-i.i h)) e.event)) c.loop-i.invariant
+        ∙ seen-more c.args.task.now c.args.over c.args.req e.moment e.event (prefix c.loop-i.i h)
+    ∙ ap (λ (k : History). seen_of c.args.task.now c.args.over (acts c.args.req k))
+        (sym (prefix-more h c.loop-i.i e (omega (arith, c.loop-i-test.true, c.len-i-end.ensures)) c.entry.ensures))
 
 pub returns : goal.returns
-returns c = c.loop-i.invariant ∙ ap (λ (k : History). seen_of c.args.task.now c.args.over (acts c.args.req k)) (prefix-all c.args.past.now c.loop-i.i (omega (arith, c.loop-i-test.false, c.len-i-end.ensures)))
+returns c =
+    c.loop-i.invariant ∙ ap (λ (k : History). seen_of c.args.task.now c.args.over (acts c.args.req k))
+    (prefix-all c.args.past.now c.loop-i.i (omega (arith, c.loop-i-test.false, c.len-i-end.ensures)))
