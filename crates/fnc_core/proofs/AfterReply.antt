@@ -3,6 +3,7 @@
 use Rattle.std.proofs.Common.{ℕ, ◌∷◌, Bool, true, false, ◌≡◌, ◌==◌, ◌≤◌, ◌<◌, ◌+◌, refl, ap, sym, ◌∙◌, subst, arith, length, cond, Option, Some, None, is_some, eqb-true, eq-eqb, ne_eqb, false-eqb}
 use Rattle.std.specs.Prelude.{filter, option_map}
 use Rattle.fnc_journal.specs.declared.entry.Req.{Req}
+use Rattle.fnc_journal.specs.declared.event.Event.{Event}
 use Rattle.fnc_journal.specs.History.{History}
 use Rattle.fnc_journal.specs.Missing.{first_of}
 use Rattle.fnc_journal.specs.Slots.{Operation}
@@ -24,6 +25,7 @@ use Rattle.fnc_queue.specs.Lanes.{lane_count}
 use Rattle.fnc_queue.specs.Queued.{Queued}
 use Rattle.fnc_core.specs.Between.{Between}
 use Rattle.fnc_core.specs.Parted.{Parted}
+use Rattle.fnc_core.proofs.KnownFew.{knows-undevice}
 use Rattle.fnc_core.specs.Wanted.{HasPlaces, Waits, held, item_for, one_if_held, wanted}
 use Rattle.fnc_core.proofs.DueFirst.{due-open, next-due, later, first-is, has-first, waiting-led, lawful-due, continues-replied}
 use Rattle.fnc_core.proofs.OwedFalls.{owed-reply}
@@ -134,6 +136,7 @@ module _ (m : ℕ) (p : Parted) (d : Due) (g : IsGiven m p d) (req : Req) (n : n
             came = omega arith;
             early = g.between.early;
             bounded = g.between.bounded;
+            few = knows-undevice m (Event.Reply (record { req = req; answer = d.answer })) p.history refl g.between.few tt;
             stands = s;
             at = at;
             waits = waits-replied;

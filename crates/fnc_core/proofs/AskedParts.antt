@@ -23,6 +23,7 @@ use Rattle.fnc_queue.specs.Items.{item_of, is_waiting, Changes}
 use Rattle.fnc_queue.specs.Queued.{Queued, reserved}
 use Rattle.fnc_core.specs.Between.{Between, Rests, Adds, RoomFor, entry}
 use Rattle.fnc_core.specs.Parted.{Parted}
+use Rattle.fnc_core.proofs.KnownFew.{knows-undevice}
 use Rattle.fnc_core.specs.Wanted.{Waits, item_for, wanted, one_if_held}
 use Rattle.fnc_core.proofs.OwedAsks.{joined-open, owed-joined, owed-begun}
 use Rattle.fnc_core.proofs.Resting.{lawful-entered}
@@ -51,6 +52,7 @@ module _ (m : ℕ) (request : Request) (p : Parted) (rests : Rests m p) where
         came = omega arith;
         early = rests.between.early;
         bounded = rests.between.bounded;
+        few = knows-undevice m event p.history refl rests.between.few tt;
         stands = s;
         at = at;
         waits = w;
@@ -61,15 +63,21 @@ module _ (m : ℕ) (request : Request) (p : Parted) (rests : Rests m p) where
         settled_then = ap (λ b. b || settled after m) (eq-eqb m m refl);
       }
 
-  -- where it joins an operation, in room that was taken for what is owed with it
-  pub between-joined : (q : Parted) → Adds m event p q → in_order event p.history ≡ true → option_map (λ (o : Operation). o.req) (joined p.history m request.kind request.target) ≡ Some request.lead.0 → RoomFor p 2 →
-      StandsFor q.ops after → AreAt m q.ops.operations → AllWait p.ops q.ops → q.queue ≡ reserved (owed p.history + 1) p.queue → Between m q
-  between-joined q a ordered led room s at w taken =
+  -- where it joins an operation, and the queue has a place for what is owed with it
+  pub between-joined : (q : Parted) → Adds m event p q → in_order event p.history ≡ true →
+      option_map (λ (o : Operation). o.req) (joined p.history m request.kind request.target) ≡ Some request.lead.0 →
+      RoomFor p 2 → StandsFor q.ops after → AreAt m q.ops.operations → AllWait p.ops q.ops → q.queue ≡ p.queue →
+      owed p.history + 1 ≤ p.queue.spare → Between m q
+  between-joined q a ordered led room s at w same places =
       between-asked q a ordered (rw led (eq-eqb request.lead.0 request.lead.0 refl)) s at
-      (λ n. ap (λ (u : Queued). item_of n u.waiting) taken ∙ rests.between.waits n ∙ sym (ap (option_map (item_for after n)) (w n)))
-      (ap (λ (u : Queued). u.alive) taken)
-      (let more : owed after ≤ owed p.history + 1 = owes in let spare : q.queue.spare ≡ max p.queue.spare (owed p.history + 1) = ap (λ (u : Queued). u.spare) taken in omega (arith, more, spare))
-      (let more : owed after ≤ owed p.history + 1 = owes in let left : length p.history + owed p.history + 2 ≤ p.limit = room in omega (arith, more, left))
+      (λ n. ap (λ (u : Queued). item_of n u.waiting) same ∙ rests.between.waits n ∙ sym (ap (option_map (item_for after n)) (w n)))
+      (ap (λ (u : Queued). u.alive) same)
+      (let more : owed after ≤ owed p.history + 1 = owes in
+      let spare : q.queue.spare ≡ p.queue.spare = ap (λ (u : Queued). u.spare) same in
+      omega (arith, more, spare, places))
+      (let more : owed after ≤ owed p.history + 1 = owes in
+      let left : length p.history + owed p.history + 2 ≤ p.limit = room in
+      omega (arith, more, left))
     where
       owes : owed after ≤ owed p.history + 1
       owes = owed-joined p.history rests.between.lawful m request (ordered-next request p.history ordered)

@@ -23,6 +23,7 @@ use Rattle.fnc_queue.specs.Lanes.{lane_count, CountsOneMore}
 use Rattle.fnc_queue.specs.Queued.{Queued, ended}
 use Rattle.fnc_core.specs.Between.{Between, Rests, Adds, entry}
 use Rattle.fnc_core.specs.Parted.{Parted}
+use Rattle.fnc_core.proofs.KnownFew.{knows-undevice}
 use Rattle.fnc_core.specs.Wanted.{Waits, Lanes, HasPlaces, wanted, item_for, held, one_if_held}
 use Rattle.fnc_core.proofs.Entered.{bounded-push}
 use Rattle.fnc_core.proofs.HeldOpen.{held_of, held-stands}
@@ -115,6 +116,7 @@ module _ (m : ℕ) (p : Parted) (rests : Rests m p) (over : Ended) (lives : is_a
         came = omega arith;
         early = rests.between.early;
         bounded = bounded-push m (Event.Exit over) p.history rests.between.bounded tt;
+        few = knows-undevice m (Event.Exit over) p.history refl rests.between.few tt;
         stands = z;
         at = at;
         waits = waits-ended q.ops u q.queue others e changed;

@@ -4,6 +4,7 @@ use Rattle.std.specs.Prelude.{option_map}
 use Rattle.fnc_journal.specs.declared.definition.Registration.{Registration}
 use Rattle.fnc_journal.specs.declared.event.Event.{Event}
 use Rattle.fnc_journal.specs.Bounds.{IsBounded}
+use Rattle.fnc_journal.specs.declared.limits.TheConstants.{GREATEST_JOURNAL}
 use Rattle.fnc_journal.specs.History.{History}
 use Rattle.fnc_journal.specs.Missing.{or_here}
 use Rattle.fnc_journal.specs.Found.{is_input, registration}
@@ -19,10 +20,12 @@ use Rattle.fnc_ops.specs.Stands.{StandsFor, AreAt, AreBounded}
 use Rattle.fnc_queue.specs.Queued.{Queued}
 use Rattle.fnc_ops.proofs.StandsQuiet.{is_untold, stands-quiet}
 use Rattle.fnc_core.specs.Between.{Between, Rests, Adds, RoomFor, is_quiet, IsBoundedEvent, MayContinue, entry}
+use Rattle.fnc_core.specs.Known.{LeavesFewNames}
 use Rattle.fnc_core.specs.Parted.{Parted}
 use Rattle.fnc_core.specs.Wanted.{Waits, HasPlaces, wanted, item_for, held}
 use Rattle.fnc_core.proofs.HeldOpen.{held_of, held-stands}
 use Rattle.fnc_core.proofs.Registrations.{lane-push, cap-push}
+use Rattle.fnc_core.proofs.KnownFew.{knows-push}
 use Rattle.fnc_core.proofs.KnownTries.{waiting-known}
 use Rattle.fnc_core.proofs.LivingRuns.{alive-entered}
 use Rattle.fnc_core.proofs.OwedSteps.{owed-frame}
@@ -98,8 +101,10 @@ module _ (m : ℕ) (event : Event) (p : Parted) (rests : Rests m p) (quiet : is_
       now
 
   -- the parts with one more entry, and with records that stand for it
-  pub between-entered : (q : Parted) → Adds m event p q → q.queue ≡ p.queue → IsBoundedEvent event → RoomFor p 1 → StandsFor q.ops after → AreAt m q.ops.operations → AllWait p.ops q.ops → Between m q
-  between-entered q a same bounded room s at w =
+  pub between-entered : (q : Parted) → Adds m event p q → q.queue ≡ p.queue → IsBoundedEvent event →
+      LeavesFewNames m event p.history → RoomFor p 1 → StandsFor q.ops after → AreAt m q.ops.operations →
+      AllWait p.ops q.ops → Between m q
+  between-entered q a same bounded names room s at w =
       subst (λ (h : History). Between m (record { history = h; limit = q.limit; ops = q.ops; queue = q.queue })) (sym a.history)
       (subst (λ (u : Queued). Between m (record { history = after; limit = q.limit; ops = q.ops; queue = u })) (sym same) made)
     where
@@ -107,10 +112,11 @@ module _ (m : ℕ) (event : Event) (p : Parted) (rests : Rests m p) (quiet : is_
       made = record {
         lawful = lawful-entered m p rests event (an_input event quiet still) ordered (no_exit event p.history still) (no_lead m event p.history quiet);
         calm = (calm-kept m event p.history still, rests.between.calm);
-        small = let limit : q.limit ≡ p.limit = a.limit in let small : p.limit ≤ 1_048_576 = rests.between.small in omega (arith, limit, small);
+        small = let limit : q.limit ≡ p.limit = a.limit in let small : p.limit ≤ GREATEST_JOURNAL = rests.between.small in omega (arith, limit, small);
         came = omega arith;
         early = rests.between.early;
         bounded = bounded-push m event p.history rests.between.bounded bounded;
+        few = knows-push m event p.history rests.between.few bounded names;
         stands = s;
         at = at;
         waits = waits-entered q.ops w;
@@ -155,11 +161,12 @@ quiet-untold (Event.Reply reply) q = cc
 quiet-untold _ q = refl
 
 -- the parts after it
-pub rests-entered : (m : ℕ) (event : Event) (p q : Parted) → Rests m p → is_quiet event ≡ true → in_order event p.history ≡ true → IsBoundedEvent event → RoomFor p 1 →
+pub rests-entered : (m : ℕ) (event : Event) (p q : Parted) → Rests m p → is_quiet event ≡ true →
+    in_order event p.history ≡ true → IsBoundedEvent event → LeavesFewNames m event p.history → RoomFor p 1 →
     Adds m event p q → q.queue ≡ p.queue → q.ops ≡ p.ops → Rests m q
-rests-entered m event p q r quiet ordered bounded room a same kept = record {
+rests-entered m event p q r quiet ordered bounded names room a same kept = record {
   between =
-      between-entered m event p r (quiet-waiting event quiet) (quiet-running event quiet) ordered q a same bounded room
+      between-entered m event p r (quiet-waiting event quiet) (quiet-running event quiet) ordered q a same bounded names room
       (subst (λ (v : Kept). StandsFor v (entry m event ∷ p.history)) (sym kept) (stands-quiet p.ops m event p.history (quiet-untold event quiet) r.between.stands))
       (subst (λ (v : Kept). AreAt m v.operations) (sym kept) r.between.at)
       (λ n. ap (λ (v : Kept). waiting n v.operations) kept);

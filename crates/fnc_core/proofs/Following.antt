@@ -1,5 +1,5 @@
 -- An input that enters after an advance, and a request that is taken or not.
-use Rattle.std.proofs.Common.{ℕ, ◌∷◌, ◌++◌, ◌≡◌, refl, ap, ap₂, sym, ◌∙◌, subst, Option, Some, None, Result, Ok, Err}
+use Rattle.std.proofs.Common.{ℕ, [], ◌∷◌, ◌++◌, ◌≡◌, refl, ap, ap₂, sym, ◌∙◌, subst, Option, Some, None, Result, Ok, Err}
 use Rattle.std.specs.Prelude.{option_map, unwrap_or, OnErr, IfErr}
 use Rattle.fnc_journal.specs.declared.event.Event.{Event}
 use Rattle.fnc_journal.specs.declared.entry.Req.{Req}
@@ -8,33 +8,62 @@ use Rattle.fnc_journal.specs.History.{History}
 use Rattle.fnc_journal.specs.Found.{devices}
 use Rattle.fnc_journal.specs.Served.{AreReplies}
 use Rattle.fnc_journal.specs.Slots.{Operation}
+use Rattle.fnc_core.specs.Between.{entry}
 use Rattle.fnc_core.specs.declared.change.Ask.{Ask}
 use Rattle.fnc_core.specs.declared.change.Change.{Change}
 use Rattle.fnc_core.specs.declared.refusal.AskRefusal.{AskRefusal}
-use Rattle.fnc_core.specs.Cored.{Cored, Advances, Enters, Follows, Asks, IsRefusal, IsAskRefusal, ask_event, ask_need, event_of, lead_in, next_of}
+use Rattle.fnc_core.specs.Cored.{Cored, Sound, Advances, Enters, Follows, Asks, HasRoom, IsRefusal, IsAskRefusal}
+use Rattle.fnc_core.specs.Cored.{ask_event, ask_need, event_of, lead_in, next_of}
 
--- after an advance an input enters with its replies
-pub follows-enters : (old mid new : Cored) (m : ℕ) (event : Event) → Advances old mid m → Follows mid new event → Enters old new m event
-follows-enters old mid new m event a f = record {
-  advance = a.advance;
-  at_once = a.at_once;
-  still = a.still;
-  replies = f.replies;
-  answered = subst (λ n. AreReplies n f.replies) a.last f.answered;
-  history = f.history ∙ ap₂ (λ n h. f.replies ++ record { moment = n; event = event } ∷ h) a.last a.history;
-  last = f.last ∙ a.last;
-  limit = f.limit ∙ a.limit;
+-- after an advance, where there is room, an input enters with its replies
+pub follows-enters : (old advanced new : Cored) (m : ℕ) (event : Event) (need : ℕ) → Advances old advanced m →
+    HasRoom advanced need → Follows advanced new event → Enters old new m event need
+follows-enters old advanced new m event need a r f = record {
+  advanced = advanced;
+  advances = a;
+  has_room = r;
+  follows = f;
+}
+
+-- at the last moment nothing advances
+pub advances-none : (v : Cored) (m : ℕ) → v.last ≡ m → Sound v → Advances v v m
+advances-none v m e s = record {
+  advance = [];
+  at_once = tt;
+  still = λ k. refl;
+  history = refl;
+  last = e;
+  limit = refl;
+  sound = s;
 }
 
 -- a request that was taken after an advance
-pub follows-asks : (old mid new : Cored) (m : ℕ) (k : Ask) (p : Plan) → Advances old mid m → Follows mid new (ask_event (next_of mid) (lead_in mid.history mid.last k (next_of mid)) k p) →
+pub follows-asks : (old mid new : Cored) (m : ℕ) (k : Ask) (p : Plan) → Advances old mid m →
+    HasRoom mid (ask_need mid k p) →
+    Follows mid new (ask_event (next_of mid) (lead_in mid.history mid.last k (next_of mid)) k p) →
     Asks old new m k p (next_of mid)
-unfolding follows-enters
-follows-asks old mid new m k p a f = record {
+follows-asks old mid new m k p a r f = record {
   lead = lead_in mid.history mid.last k (next_of mid);
-  enters = follows-enters old mid new m (ask_event (next_of mid) (lead_in mid.history mid.last k (next_of mid)) k p) a f;
-  leads = ap₂ (λ h n. lead_in h n k (next_of mid)) a.history a.last;
+  need = ask_need mid k p;
+  enters = record { advanced = mid; advances = a; has_room = r; follows = f };
+  leads = ap (λ n. lead_in mid.history n k (next_of mid)) a.last;
+  needs = refl;
 }
+
+-- an input that entered: its replies, the journal, the last moment and the limit after it
+module _ {old new : Cored} {m : ℕ} {event : Event} {need : ℕ} (e : Enters old new m event need) where
+  pub entered-answered : AreReplies m e.follows.replies
+  entered-answered = subst (λ n. AreReplies n e.follows.replies) e.advances.last e.follows.answered
+
+  pub entered-history : new.history ≡ e.follows.replies ++ entry m event ∷ (e.advances.advance ++ old.history)
+  entered-history =
+      e.follows.history ∙ ap₂ (λ n h. e.follows.replies ++ entry n event ∷ h) e.advances.last e.advances.history
+
+  pub entered-last : new.last ≡ m
+  entered-last = e.follows.last ∙ e.advances.last
+
+  pub entered-limit : new.limit ≡ old.limit
+  entered-limit = e.follows.limit ∙ e.advances.limit
 
 -- a device's number is all that a change takes from the journal
 pub same-event : (g h : History) (change : Change) → devices g ≡ devices h → event_of g change ≡ event_of h change

@@ -11,8 +11,9 @@ use Rattle.fnc_journal.specs.Served.{AreReplies}
 use Rattle.fnc_journal.proofs.Each.{each-map}
 use Rattle.fnc_core.specs.declared.change.Started.{Started}
 use Rattle.fnc_core.specs.Between.{entry, start_of}
-use Rattle.fnc_core.specs.Cored.{Cored, Advances, Enters, Starts, ask_event}
-use Rattle.fnc_core.specs.Calls.{IsCall, AreCalls, Grows, after_all, but_replies, entered_by, entered_by_all}
+use Rattle.fnc_core.specs.Cored.{Cored, Sound, Advances, Enters, Starts, ask_event}
+use Rattle.fnc_core.specs.Calls.{IsCall, AreCalls, AreSound, Grows, after_all, but_replies, entered_by, entered_by_all}
+use Rattle.fnc_core.proofs.Following.{entered-answered, entered-history, entered-last, entered-limit}
 
 -- of a list the entries lie between two moments
 abbrev pub AreBetween : ℕ → ℕ → History → Type 0
@@ -52,17 +53,22 @@ module _ (old new : Cored) where
     limit = x.limit;
   }
 
-  grows-entered : (m : ℕ) (event : Event) → old.last ≤ m → Enters old new m event → Grows old new
-  grows-entered m event l x =
-      let here : AreBetween old.last m (entry m event ∷ x.advance) = ((l, omega arith), replies-between old.last m x.advance x.at_once l) in
-      let came : AreBetween old.last m (x.replies ++ entry m event ∷ x.advance) =
-      each-both (λ (e : Entry). (old.last ≤ e.moment) × (e.moment ≤ m)) x.replies (entry m event ∷ x.advance) (replies-between old.last m x.replies x.answered l) here in
+  grows-entered : (m : ℕ) (event : Event) (need : ℕ) → old.last ≤ m → Enters old new m event need → Grows old new
+  grows-entered m event need l x =
+      let here : AreBetween old.last m (entry m event ∷ x.advances.advance) =
+      ((l, omega arith), replies-between old.last m x.advances.advance x.advances.at_once l) in
+      let came : AreBetween old.last m (x.follows.replies ++ entry m event ∷ x.advances.advance) =
+      each-both (λ (e : Entry). (old.last ≤ e.moment) × (e.moment ≤ m)) x.follows.replies (entry m event ∷ x.advances.advance)
+      (replies-between old.last m x.follows.replies (entered-answered x) l) here in
       record {
-        more = x.replies ++ entry m event ∷ x.advance;
-        history = x.history ∙ sym (append_assoc x.replies (entry m event ∷ x.advance) old.history);
-        came = subst (λ n. AreBetween old.last n (x.replies ++ entry m event ∷ x.advance)) (sym x.last) came;
-        later = subst (λ n. old.last ≤ n) (sym x.last) l;
-        limit = x.limit;
+        more = x.follows.replies ++ entry m event ∷ x.advances.advance;
+        history =
+            entered-history x ∙ sym (append_assoc x.follows.replies (entry m event ∷ x.advances.advance) old.history);
+        came =
+            subst (λ n. AreBetween old.last n (x.follows.replies ++ entry m event ∷ x.advances.advance))
+            (sym (entered-last x)) came;
+        later = subst (λ n. old.last ≤ n) (sym (entered-last x)) l;
+        limit = entered-limit x;
       }
 
   grows-began : (s : Started) → Starts old new s → Grows old new
@@ -81,19 +87,31 @@ module _ (old new : Cored) where
 
   grows-call : IsCall old new → Grows old new
   grows-call (IsCall.Advanced m l x) = grows-advanced m l x
-  grows-call (IsCall.Entered m event l unreply x) = grows-entered m event l x
-  grows-call (IsCall.Asked m a p req l x) = grows-entered m (ask_event req x.lead a p) l x.enters
+  grows-call (IsCall.Entered m event need l unreply x) = grows-entered m event need l x
+  grows-call (IsCall.Asked m a p req l x) = grows-entered m (ask_event req x.lead a p) x.need l x.enters
   grows-call (IsCall.Began s x) = grows-began s x
   grows-call (IsCall.Stayed same) = grows-stayed same
 
+  entered-in : (m : ℕ) (event : Event) (need : ℕ) → is_reply event ≡ false → Enters old new m event need →
+      but_replies new.history ≡ entry m event ∷ but_replies old.history
+  entered-in m event need unreply x =
+      ap but_replies (entered-history x)
+      ∙ entry-passes m event x.follows.replies x.advances.advance old.history (entered-answered x) x.advances.at_once unreply
+
   entered-call : (call : IsCall old new) → but_replies new.history ≡ entered_by old new call ++ but_replies old.history
   entered-call (IsCall.Advanced m l x) = ap but_replies x.history ∙ replies-pass m x.advance old.history x.at_once
-  entered-call (IsCall.Entered m event l unreply x) = ap but_replies x.history ∙ entry-passes m event x.replies x.advance old.history x.answered x.at_once unreply
-  entered-call (IsCall.Asked m a p req l x) =
-      ap but_replies x.enters.history ∙
-      entry-passes m (ask_event req x.lead a p) x.enters.replies x.enters.advance old.history x.enters.answered x.enters.at_once refl
+  entered-call (IsCall.Entered m event need l unreply x) = entered-in m event need unreply x
+  entered-call (IsCall.Asked m a p req l x) = entered-in m (ask_event req x.lead a p) x.need refl x.enters
   entered-call (IsCall.Began s x) = ap but_replies x.history
   entered-call (IsCall.Stayed same) = ap (λ (v : Cored). but_replies v.history) same
+
+  -- what a call leaves is sound
+  sound-call : Sound old → IsCall old new → Sound new
+  sound-call s (IsCall.Advanced m l x) = x.sound
+  sound-call s (IsCall.Entered m event need l unreply x) = x.follows.sound
+  sound-call s (IsCall.Asked m a p req l x) = x.enters.follows.sound
+  sound-call s (IsCall.Began b x) = x.sound
+  sound-call s (IsCall.Stayed same) = subst Sound (sym same) s
 
 grows-twice : (a b c : Cored) → Grows a b → Grows b c → Grows a c
 grows-twice a b c g k =
@@ -119,3 +137,7 @@ entered-all v [] calls = refl
 entered-all v (w ∷ ws) calls =
     entered-all w ws calls.1 ∙ ap (λ h. entered_by_all w ws calls.1 ++ h) (entered-call v w calls.0) ∙
     sym (append_assoc (entered_by_all w ws calls.1) (entered_by v w calls.0) (but_replies v.history))
+
+pub sound-all : (v : Cored) (vs : List Cored) → Sound v → AreCalls v vs → AreSound v vs
+sound-all v [] s calls = (s, tt)
+sound-all v (w ∷ ws) s calls = (s, sound-all w ws (sound-call v w s calls.0) calls.1)

@@ -1,5 +1,8 @@
+-- What is proved of the core: an event leaves the journal lawful and calm, the records and the queue are those of
+-- the journal, what is owed has room, and few names and small levels are known.
 pub mod Sounds
 pub mod Replied
+pub mod KnownFew
 pub mod Numbers
 pub mod Following
 pub mod KnownTasks

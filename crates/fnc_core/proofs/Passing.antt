@@ -95,6 +95,7 @@ between-later last m old ops queue r le early stands at waits alive places = rec
   came = let came : last_moment old.history ≤ last = r.between.came in omega (arith, came, le);
   early = early;
   bounded = r.between.bounded;
+  few = r.between.few;
   stands = stands;
   at = at;
   waits = waits;

@@ -13,6 +13,7 @@ use Rattle.fnc_journal.specs.declared.plan.Candidate.{Candidate}
 use Rattle.fnc_journal.specs.declared.plan.Plan.{Plan}
 use Rattle.fnc_journal.specs.Device.{Device}
 use Rattle.fnc_journal.specs.Found.{asks, devices, starts, registration, is_reply, entry_at}
+use Rattle.fnc_journal.specs.declared.limits.TheConstants.{DAY}
 use Rattle.fnc_journal.specs.History.{History}
 use Rattle.fnc_journal.specs.Lawful.{in_order, may_ask}
 use Rattle.fnc_journal.specs.Levels.{Level, levels, stands, oldest, pattern_here, pattern_at, pattern_levels, scoped, is_in_place}
@@ -88,7 +89,7 @@ module _ (m : ℕ) (req : Req) (answer : Answer) (h : History) where
 
   order-replied : (event : Event) → in_order event after ≡ in_order event h
   order-replied (Event.Ask ask) =
-      ap (λ b. (ask.req.0 == asks h) && may_ask ask.kind && nat_le 1 ask.total && nat_le ask.total 86_400_000 && b) (place-replied ask.scope ask.target)
+      ap (λ b. (ask.req.0 == asks h) && may_ask ask.kind && nat_le 1 ask.total && nat_le ask.total DAY && b) (place-replied ask.scope ask.target)
   order-replied (Event.Device device) = refl
   order-replied (Event.Gone reg) = refl
   order-replied (Event.LevelGone cleared) = refl
@@ -143,12 +144,8 @@ module _ (m : ℕ) (rs h : History) (are : AreReplies m rs) where
   plan-replied w = replied (plan w) (λ m req answer h. plan-kept m req answer h w) m rs h are
 
   pub is_plan-replied : (begin : ℕ) (kind : Kind) (target : List ℕ) (p : Plan) → IsPlanOf h begin kind target p → IsPlanOf (rs ++ h) begin kind target p
-  is_plan-replied begin kind target p k = record {
-    is = k.is ∙ sym (plan-replied (record { kind = kind; target = target; begin = begin; scope = p.scope }));
-    few_candidates = k.few_candidates;
-    few_levels = k.few_levels;
-    few_devices = k.few_devices;
-  }
+  is_plan-replied begin kind target p k =
+      k ∙ sym (plan-replied (record { kind = kind; target = target; begin = begin; scope = p.scope }))
 
   -- the entries that a request wants are as many
   pub need-replied : (begin : ℕ) (req : Req) (a : Ask) (p : Plan) → need_of (rs ++ h) begin req a p ≡ need_of h begin req a p

@@ -14,6 +14,7 @@ use Rattle.fnc_journal.specs.Operations.{open_operations, settled, unanswered, i
 use Rattle.fnc_journal.specs.Owed.{owed, owed_by, owed_by_all, untried}
 use Rattle.fnc_journal.specs.Lawful.{last_moment}
 use Rattle.fnc_journal.specs.Startable.{Begun, alive_runs}
+use Rattle.fnc_core.specs.Known.{KnowsFew}
 use Rattle.fnc_core.specs.Parted.{Parted}
 use Rattle.fnc_core.specs.Between.{Rests, IsNextStart}
 use Rattle.fnc_core.specs.Cored.{Cored, Sound, IsFirstStart}
@@ -38,8 +39,17 @@ rests-sound m p r = record {
   settled_then = settled-then m p r;
   came = r.between.came;
   bounded = r.between.bounded;
+  few = r.between.few;
   room = r.between.room;
 }
+
+-- what contracts see of the core is sound
+pub sound_seen : (v : Cored) (m : ℕ) (p : Parted) → value p m ≡ v → Rests m p → Sound v
+sound_seen v m p seen r = subst Sound seen (rests-sound m p r)
+
+-- and knows little
+pub knows-few : (v : Cored) (p : Parted) (m : ℕ) → value p m ≡ v → Rests m p → KnowsFew v.history
+knows-few v p m seen r = (sound_seen v m p seen r).few
 
 none-owed : (h : History) (os : List Operation) → AllByRecursion (λ (p : Operation). is_open p.req h ≡ true) os → owed_by_all h os ≡ 0 → os ≡ []
 none-owed h [] a e = refl

@@ -31,6 +31,7 @@ use Rattle.fnc_ops.proofs.AliveCounts.{alive-started}
 use Rattle.fnc_ops.proofs.Apart.{AreApart}
 use Rattle.fnc_core.specs.Between.{Rests}
 use Rattle.fnc_core.specs.Parted.{Parted}
+use Rattle.fnc_core.proofs.KnownFew.{knows-undevice}
 use Rattle.fnc_core.specs.Wanted.{Waits, Lanes, HasPlaces, held, wanted, item_for}
 use Rattle.fnc_core.proofs.KnownTasks.{IsKnown, defined}
 use Rattle.fnc_core.proofs.HeldOpen.{held-stands}
@@ -178,6 +179,7 @@ module _ (m : ℕ) (p : Parted) (start : Start) (item : Waiting) (s : Startable)
       came = omega arith;
       early = made.rests.between.early;
       bounded = made.rests.between.bounded;
+      few = knows-undevice m (Event.Start start) p.history refl made.rests.between.few tt;
       stands = stands-after;
       at = made.at;
       waits = waits-after;

@@ -1,17 +1,38 @@
 -- What holds of the core's parts between the entries of one event, and what holds besides once nothing is due.
-use Rattle.std.specs.Prelude.{ℕ, List, [], ◌∷◌, ◌++◌, Bool, true, false, ◌≡◌, ◌==◌, ◌||◌, ◌+◌, ◌*◌, ◌≤◌, ◌^◌, length, Option, Some, None, option_map, option_and_then}
+use Rattle.std.specs.Prelude.{
+  ℕ,
+  List,
+  [],
+  ◌∷◌,
+  ◌++◌,
+  Bool,
+  true,
+  false,
+  ◌≡◌,
+  ◌==◌,
+  ◌||◌,
+  ◌+◌,
+  ◌*◌,
+  ◌≤◌,
+  length,
+  Option,
+  Some,
+  None,
+  option_map,
+  option_and_then,
+}
 use Rattle.fnc_journal.specs.declared.entry.Entry.{Entry}
 use Rattle.fnc_journal.specs.declared.event.Event.{Event}
 use Rattle.fnc_journal.specs.declared.event.Request.{Request}
 use Rattle.fnc_journal.specs.declared.event.Start.{Start}
 use Rattle.fnc_journal.specs.declared.entry.Scope.{Scope}
 use Rattle.fnc_journal.specs.declared.entry.Answer.{Answer}
+use Rattle.fnc_journal.specs.declared.limits.TheConstants.{GREATEST_JOURNAL, GREATEST_MOMENT}
 use Rattle.fnc_journal.specs.History.{History}
 use Rattle.fnc_journal.specs.Served.{AreReplies}
 use Rattle.fnc_journal.specs.Operations.{first_due, due_to, settled}
 use Rattle.fnc_journal.specs.Owed.{owed, tries_of}
 use Rattle.fnc_journal.specs.Lawful.{Lawful, Calm, Pending, pending, last_moment}
-use Rattle.std.specs.List.{AllByRecursion}
 use Rattle.fnc_journal.specs.declared.entry.Kind.{Kind}
 use Rattle.fnc_journal.specs.declared.entry.Req.{Req}
 use Rattle.fnc_journal.specs.declared.plan.Plan.{Plan}
@@ -23,12 +44,15 @@ use Rattle.fnc_journal.specs.Acts.{acts, runs, limit}
 use Rattle.fnc_journal.specs.Startable.{Startable, first}
 use Rattle.fnc_core.specs.declared.change.Ask.{Ask}
 use Rattle.fnc_core.specs.declared.change.Started.{Started}
+use Rattle.fnc_ops.specs.declared.ops.Operation.{Operation as Begun}
 use Rattle.fnc_ops.specs.Stands.{StandsFor, AreAt, AreBounded}
+use Rattle.fnc_core.specs.Known.{KnowsFew, IsSmallLevel}
 use Rattle.fnc_core.specs.Limits.{limit_at}
 use Rattle.fnc_core.specs.Parted.{Parted}
 use Rattle.fnc_core.specs.Wanted.{Waits, Lanes, HasPlaces}
 
--- the replies that must follow go to the first operation that is due, with the answer that is due to it, at this moment
+-- the replies that must follow go to the first operation that is due, with the answer that is due to it, at this
+-- moment
 pub record Continues (h : History) (m : ℕ) (p : Pending) : Type 0 where
   pub operation : option_map (λ o. o.req) (first_due h m) ≡ Some p.operation
   pub answer : option_and_then (due_to h m) (first_due h m) ≡ Some p.answer
@@ -43,10 +67,11 @@ MayContinue h m (Some p) = Continues h m p
 pub record Between (m : ℕ) (p : Parted) : Type 0 where
   pub lawful : Lawful p.history
   pub calm : Calm p.history
-  pub small : p.limit ≤ 1_048_576
+  pub small : p.limit ≤ GREATEST_JOURNAL
   pub came : last_moment p.history ≤ m
-  pub early : m ≤ 10 ^ 15
+  pub early : m ≤ GREATEST_MOMENT
   pub bounded : AreBounded p.history
+  pub few : KnowsFew p.history
   pub stands : StandsFor p.ops p.history
   pub at : AreAt m p.ops.operations
   pub waits : Waits p.history p.ops p.queue
@@ -92,22 +117,34 @@ is_quiet Event.Pass = true
 is_quiet (Event.Refused refusal) = true
 is_quiet _ = false
 
--- a device's definition is within its bounds
+-- a device's definition is within its bounds, and so is a level
 abbrev pub IsBoundedEvent : Event → Type 0
 IsBoundedEvent (Event.Device device) = IsBounded device.registration.definition
+IsBoundedEvent (Event.Level set) = IsSmallLevel set.index set.devices
 IsBoundedEvent _ = Unit {0}
 
--- the plan of a target for an action at a moment, of no more than 128 candidates, or 9 levels of 8 devices
-pub record IsPlanOf (h : History) (m : ℕ) (kind : Kind) (target : List ℕ) (p : Plan) : Type 0 where
-  pub is : p ≡ plan (record { kind = kind; target = target; begin = m; scope = p.scope }) h
-  pub few_candidates : length p.candidates ≤ 128
-  pub few_levels : length p.levels ≤ 9
-  pub few_devices : AllByRecursion (λ l. length l.devices ≤ 8) p.levels
+-- the plan of a target for an action at a moment
+abbrev pub IsPlanOf : History → ℕ → Kind → List ℕ → Plan → Type 0
+IsPlanOf h m kind target p = p ≡ plan (record { kind = kind; target = target; begin = m; scope = p.scope }) h
 
 -- the operation that a request begins
 abbrev pub operation_with : History → ℕ → Req → Ask → Plan → Operation
 operation_with h m req a p =
-    operation_by req.0 (record { moment = m; lead = req.0; kind = a.kind; target = a.target; total = a.total; coin = a.coin; scope = p.scope; before = h }) p
+    operation_by req.0 (record {
+      moment = m;
+      lead = req.0;
+      kind = a.kind;
+      target = a.target;
+      total = a.total;
+      coin = a.coin;
+      scope = p.scope;
+      before = h;
+    }) p
+
+-- what a client asks for, as what an operation of a number begins with
+abbrev pub operation_asked : ℕ → Req → Ask → Begun
+operation_asked m req a =
+    record { req = req; target = a.target; kind = a.kind; moment = m; total = a.total; coin = a.coin }
 
 -- what a client asks for, as a request of a number, with its lead and its scope
 abbrev pub request_of : Req → Req → Ask → Scope → Request
@@ -122,7 +159,8 @@ request_of req lead a scope = record {
   scope = scope;
 }
 
--- the entries that a request wants which begins an operation: its own, its reply, and a start and an exit for each try
+-- the entries that a request wants which begins an operation: its own, its reply, and a start and an exit for each
+-- try
 abbrev pub need_of : History → ℕ → Req → Ask → Plan → ℕ
 need_of h m req a p = 2 + 2 * tries_of (all_slots (operation_with h m req a p))
 
@@ -158,7 +196,9 @@ pub record IsNextStart (m : ℕ) (p : Parted) (run : Run) (s : Started) : Type 0
   pub reg : s.reg.0 ≡ startable.task.reg
   pub kind : s.kind ≡ startable.task.kind
   pub attempt : s.attempt ≡ runs startable.task.slot (acts startable.operation.req p.history) + 1
-  pub limit : s.limit ≡ limit_from m startable.operation.over startable.task (limit startable.task startable.operation.over (acts startable.operation.req p.history))
+  pub limit :
+      s.limit ≡ limit_from m startable.operation.over startable.task
+      (limit startable.task startable.operation.over (acts startable.operation.req p.history))
 
 -- the journal has the start as one more entry
 abbrev pub StartsNext : ℕ → Started → Parted → Parted → Type 0

@@ -10,12 +10,13 @@ use Rattle.fnc_journal.specs.Found.{is_reply}
 use Rattle.fnc_core.specs.declared.change.Ask.{Ask}
 use Rattle.fnc_core.specs.declared.change.Started.{Started}
 use Rattle.fnc_core.specs.Between.{entry, start_of}
-use Rattle.fnc_core.specs.Cored.{Cored, Advances, Enters, Asks, Starts, ask_event}
+use Rattle.fnc_core.specs.Cored.{Cored, Sound, Advances, Enters, Asks, Starts, ask_event}
 
 -- what a call does: the moment advances alone, an input or a request enters, a try starts, or nothing changes
 pub data IsCall (old new : Cored) : Type 0 where
   Advanced : (m : ℕ) → old.last ≤ m → Advances old new m → IsCall old new
-  Entered : (m : ℕ) (event : Event) → old.last ≤ m → is_reply event ≡ false → Enters old new m event → IsCall old new
+  Entered : (m : ℕ) (event : Event) (need : ℕ) → old.last ≤ m → is_reply event ≡ false →
+      Enters old new m event need → IsCall old new
   Asked : (m : ℕ) (a : Ask) (p : Plan) (req : Req) → old.last ≤ m → Asks old new m a p req → IsCall old new
   Began : (s : Started) → Starts old new s → IsCall old new
   Stayed : new ≡ old → IsCall old new
@@ -29,6 +30,10 @@ AreCalls v (w ∷ ws) = IsCall v w × AreCalls w ws
 abbrev pub after_all : Cored → List Cored → Cored
 after_all v [] = v
 after_all v (w ∷ ws) = after_all w ws
+
+-- the core is sound at first and after each call
+abbrev pub AreSound : Cored → List Cored → Type 0
+AreSound v vs = AllByRecursion Sound (v ∷ vs)
 
 -- the journal has more entries, at its end alone and of moments from the last one before to the last one now
 pub record Grows (old new : Cored) : Type 0 where
@@ -45,7 +50,7 @@ but_replies h = filter (λ e. not (is_reply e.event)) h
 -- the entry of what a call let in or started
 abbrev pub entered_by : (old new : Cored) → IsCall old new → History
 entered_by old new (Advanced m later advances) = []
-entered_by old new (Entered m event later unreply enters) = entry m event ∷ []
+entered_by old new (Entered m event need later unreply enters) = entry m event ∷ []
 entered_by old new (Asked m a p req later asks) = entry m (ask_event req asks.lead a p) ∷ []
 entered_by old new (Began s starts) = entry old.last (Event.Start (start_of s)) ∷ []
 entered_by old new (Stayed same) = []

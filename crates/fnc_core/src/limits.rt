@@ -1,12 +1,13 @@
 // The limit of a slot, at which an exit no longer counts.
 
-ghost use Rattle.std.specs.Prelude.{◌≡◌, ◌≤◌, ◌^◌, Some};
+ghost use Rattle.std.specs.Prelude.{◌≡◌, ◌≤◌, Some};
 ghost use Rattle.fnc_journal.specs.Slots.{Operation};
 ghost use Rattle.fnc_journal.specs.Operations as Operations;
 ghost use Rattle.fnc_journal.specs.Lawful.{Lawful};
 ghost use Rattle.fnc_ops.specs.Stands.{AreBounded};
 ghost use Rattle.fnc_core.specs.Limits as Limits;
 
+use fnc_journal::limits::{DAY, GREATEST_MOMENT};
 use fnc_journal::{Entry, Event, Journal, Kind, Reg, Req};
 use fnc_records::Standing;
 
@@ -35,7 +36,7 @@ fn over_of(journal: &Journal, req: Req) -> u64
 fn time_of(journal: &Journal, reg: Reg, kind: Kind) -> u64
     requires { AreBounded journal.now.history }
     ensures value { result ≡ Limits.time_of reg.0 kind journal.now.history }
-    ensures short { result ≤ 86_400_000 }
+    ensures short { result ≤ DAY }
 {
     match journal.registration(reg) {
         None => 0,
@@ -47,9 +48,10 @@ fn time_of(journal: &Journal, reg: Reg, kind: Kind) -> u64
 pub(crate) fn limit_of(journal: &Journal, req: Req, standing: Standing, moment: u64) -> u64
     requires lawful { Lawful journal.now.history }
     requires bounded { AreBounded journal.now.history }
-    requires early { moment ≤ 10 ^ 15 }
+    requires early { moment ≤ GREATEST_MOMENT }
     ensures { (o : Operation) → Operations.operation req.0 journal.now.history ≡ Some o →
-        result ≡ Limits.limit_at moment o.over (Limits.time_of standing.reg.0 standing.kind journal.now.history) standing.limit }
+        result ≡ Limits.limit_at moment o.over
+        (Limits.time_of standing.reg.0 standing.kind journal.now.history) standing.limit }
 {
     match standing.limit {
         Some(at) => at,

@@ -1,18 +1,23 @@
 // The core: one event of the fencer after another.
 
-ghost use Rattle.std.specs.Prelude.{◌≡◌, ◌<◌, ◌≤◌, ◌+◌, ◌*◌, ◌^◌, ◌↔◌, [], true, None, IsOk, IsNone, IfOk, IfErr, IfNone, IfSome, OnOk, OnErr, option_map};
+ghost use Rattle.std.specs.Prelude.{◌≡◌, ◌<◌, ◌≤◌, ◌+◌, ◌↔◌, [], true, None, option_map};
+ghost use Rattle.std.specs.Prelude.{IsOk, IsNone, IfOk, IfErr, IfNone, IfSome, OnOk, OnErr};
 ghost use Rattle.fnc_journal.specs.declared.event.Event.{Event};
 ghost use Rattle.fnc_journal.specs.Found.{asks};
 ghost use Rattle.fnc_journal.specs.Lawful.{in_order, may_ask};
 ghost use Rattle.fnc_journal.specs.Levels.{is_in_place};
 ghost use Rattle.fnc_journal.specs.Operations.{joined};
+ghost use Rattle.fnc_journal.specs.Owed.{owed};
 ghost use Rattle.fnc_journal.specs.Startable.{first, is_alive};
 ghost use Rattle.fnc_core.specs.Between.{IsBoundedEvent, IsPlanOf};
-ghost use Rattle.fnc_core.specs.Cored.{Sound, Advances, Enters, Asks, Starts, HasRoom, IsFull, IsIdle, IsAskRefusal, IsStart, event_of};
+ghost use Rattle.fnc_core.specs.Cored.{Sound, HasRoom, IsFull, IsIdle, IsAskRefusal, IsStart, event_of};
+ghost use Rattle.fnc_core.specs.Cored.{Advances, Enters, Asks, Starts};
+ghost use Rattle.fnc_core.specs.Known.{LeavesFewNames};
 
 use crate::change::{Ask, Change, Started};
 use crate::parts::Parts;
 use crate::refusal::{AskRefusal, UnknownRun};
+use fnc_journal::limits::{DAY, GREATEST_JOURNAL, GREATEST_MOMENT, LEAST_JOURNAL};
 use fnc_journal::{
     Cause, Ended, Event, Exit, Full, Journal, Kind, NoMemory, Plan, Refusal, Req, Run,
 };
@@ -46,8 +51,8 @@ impl Model for Core {
 impl Core {
     /// A core with an empty journal that may have `limit` entries, all of whose room is taken here.
     pub fn with_limit(alloc: Global, limit: u32) -> Result<Core, NoMemory>
-        requires least { 16_384 ≤ limit }
-        requires most { limit ≤ 1_048_576 }
+        requires least { LEAST_JOURNAL ≤ limit }
+        requires most { limit ≤ GREATEST_JOURNAL }
         ensures history { IfOk result (λ c. c.history ≡ []) }
         ensures last { IfOk result (λ c. c.last ≡ 0) }
         ensures limit { IfOk result (λ c. c.limit ≡ limit) }
@@ -69,7 +74,7 @@ impl Core {
     /// The last moment, in milliseconds.
     pub fn last(&self) -> u64
         ensures value { result ≡ self.now.last }
-        ensures early { result ≤ 10 ^ 15 }
+        ensures early { result ≤ GREATEST_MOMENT }
     {
         self.last
     }
@@ -109,9 +114,10 @@ impl Core {
         self.parts.ops.owed() == 0
     }
 
-    /// Whether there is room for so many entries, beside those that are owed for what was accepted.
-    pub fn room(&self, need: u32) -> Result<(), Full>
-        ensures ok { OnOk result (HasRoom self.now need) }
+    /// The entries that are owed for what was accepted, where there is room for so many more beside them.
+    pub(crate) fn owing(&self, need: u32) -> Result<u32, Full>
+        ensures ok { IfOk result (λ owing. owing ≡ owed self.now.history) }
+        ensures room { OnOk result (HasRoom self.now need) }
         ensures full { IfErr result (IsFull self.now need) }
     {
         let full = Full {
@@ -123,28 +129,41 @@ impl Core {
         if u64::from(full.entries) + u64::from(full.owed) + u64::from(need)
             <= u64::from(full.limit)
         {
-            Ok(())
+            Ok(full.owed)
         } else {
             Err(full)
         }
     }
 
-    /// Lets the moment, in milliseconds, advance, and gives the replies that are due at it.
+    /// Whether there is room for so many entries, beside those that are owed for what was accepted.
+    pub fn room(&self, need: u32) -> Result<(), Full>
+        ensures ok { OnOk result (HasRoom self.now need) }
+        ensures full { IfErr result (IsFull self.now need) }
+    {
+        self.owing(need)?;
+        Ok(())
+    }
+
+    /// Lets the moment, in milliseconds, advance, and gives the replies that are due at it: at the last moment none
+    /// is.
+    #[tactic(auto, using(crate::proofs::Sounds::sound_seen))]
     pub fn advance(&mut self, moment: u64)
         requires later { self.old.last ≤ moment }
-        requires early { moment ≤ 10 ^ 15 }
+        requires early { moment ≤ GREATEST_MOMENT }
         ensures { Advances self.old self.new moment }
     {
-        self.parts.pass_time(self.last, moment);
-        self.parts.give_replies(moment);
-        self.last = moment;
+        if moment > self.last {
+            self.parts.pass_time(self.last, moment);
+            self.parts.give_replies(moment);
+            self.last = moment;
+        }
     }
 
     /// A moment passes, and nothing comes with it.
     pub fn pass(&mut self, moment: u64) -> Result<(), Full>
         requires later { self.old.last ≤ moment }
-        requires early { moment ≤ 10 ^ 15 }
-        ensures ok { OnOk result (Enters self.old self.new moment Event.Pass) }
+        requires early { moment ≤ GREATEST_MOMENT }
+        ensures ok { OnOk result (Enters self.old self.new moment Event.Pass 1) }
         ensures full { IfErr result (IsFull self.new 1) }
         ensures err { OnErr result (Advances self.old self.new moment) }
     {
@@ -157,8 +176,9 @@ impl Core {
     /// Refuses a line, by its number, for a cause.
     pub fn refuse(&mut self, moment: u64, line: u32, cause: Cause) -> Result<(), Full>
         requires later { self.old.last ≤ moment }
-        requires early { moment ≤ 10 ^ 15 }
-        ensures ok { OnOk result (Enters self.old self.new moment (Event.Refused (record { line = line; cause = cause }))) }
+        requires early { moment ≤ GREATEST_MOMENT }
+        ensures ok { OnOk result
+            (Enters self.old self.new moment (Event.Refused (record { line = line; cause = cause })) 1) }
         ensures full { IfErr result (IsFull self.new 1) }
         ensures err { OnErr result (Advances self.old self.new moment) }
     {
@@ -171,10 +191,11 @@ impl Core {
     /// Something of what the fencer knows changes. An operator's word makes its replies due.
     pub fn note(&mut self, moment: u64, change: Change) -> Result<(), Full>
         requires later { self.old.last ≤ moment }
-        requires early { moment ≤ 10 ^ 15 }
+        requires early { moment ≤ GREATEST_MOMENT }
         requires ordered { in_order (event_of self.old.history change) self.old.history ≡ true }
         requires bounded { IsBoundedEvent (event_of self.old.history change) }
-        ensures ok { OnOk result (Enters self.old self.new moment (event_of self.old.history change)) }
+        requires few_names { LeavesFewNames moment (event_of self.old.history change) self.old.history }
+        ensures ok { OnOk result (Enters self.old self.new moment (event_of self.old.history change) 1) }
         ensures full { IfErr result (IsFull self.new 1) }
         ensures err { OnErr result (Advances self.old self.new moment) }
     {
@@ -194,10 +215,10 @@ impl Core {
         plan: Plan,
     ) -> Result<Req, AskRefusal>
         requires later { self.old.last ≤ moment }
-        requires early { moment ≤ 10 ^ 15 }
+        requires early { moment ≤ GREATEST_MOMENT }
         requires kind { may_ask ask.kind ≡ true }
         requires some_time { 1 ≤ ask.total }
-        requires most_time { ask.total ≤ 86_400_000 }
+        requires most_time { ask.total ≤ DAY }
         requires in_place { is_in_place plan.scope ask.target self.old.history ≡ true }
         requires planned { IsPlanOf self.old.history moment ask.kind ask.target plan }
         ensures ok { IfOk result (Asks self.old self.new moment ask plan) }
@@ -221,16 +242,18 @@ impl Core {
         listed: bool,
     ) -> Result<(), UnknownRun>
         requires later { self.old.last ≤ moment }
-        requires early { moment ≤ 10 ^ 15 }
-        ensures ok { OnOk result (Enters self.old self.new moment (Event.Exit (record { run = run; exit = exit; listed = listed }))) }
+        requires early { moment ≤ GREATEST_MOMENT }
+        ensures ok { OnOk result
+            (Enters self.old self.new moment (Event.Exit (record { run = run; exit = exit; listed = listed })) 0) }
         ensures alive { IsOk result ↔ (is_alive run.0 self.old.history ≡ true) }
         ensures err { OnErr result (Advances self.old self.new moment) }
     {
         self.advance(moment);
-        if !self.parts.is_alive(run) {
+        let Some(start) = self.parts.alive_start(run) else {
             return Err(UnknownRun);
-        }
-        self.parts.end_run(moment, Ended { run, exit, listed });
+        };
+        self.parts
+            .end_run(start, moment, Ended { run, exit, listed });
         self.parts.give_replies(moment);
         Ok(())
     }
@@ -245,6 +268,7 @@ impl Core {
     }
 
     /// Starts the first try that may start at the last moment. None exactly where no try may start.
+    #[tactic(auto, using(crate::proofs::Sounds::sound_seen))]
     pub fn next_start(&mut self) -> Option<Started>
         ensures none { IsNone result ↔ (first self.old.history self.old.last ≡ None) }
         ensures unchanged { IfNone result (self.new ≡ self.old) }

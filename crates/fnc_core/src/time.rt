@@ -1,12 +1,13 @@
 // Time passes.
 
-ghost use Rattle.std.specs.Prelude.{◌≡◌, ◌≤◌, ◌^◌, map};
+ghost use Rattle.std.specs.Prelude.{◌≡◌, ◌≤◌, map};
 ghost use Rattle.fnc_ops.specs.Stands.{StandsFor, AreAt, AreBy};
 ghost use Rattle.fnc_core.specs.Between.{Between, Rests};
 
 use crate::parts::Parts;
 use crate::queueing::refill;
 use fnc_journal::Journal;
+use fnc_journal::limits::GREATEST_MOMENT;
 use fnc_ops::Ops;
 
 /// The records come to speak of a later moment, one by one where a standing slot has come to its action's end.
@@ -26,14 +27,12 @@ impl Parts {
     pub fn pass_time(&mut self, last: u64, moment: u64)
         requires rests { Rests last self.old }
         requires later { last ≤ moment }
-        requires early { moment ≤ 10 ^ 15 }
+        requires early { moment ≤ GREATEST_MOMENT }
         ensures between { Between moment self.new }
         ensures history { self.new.history ≡ self.old.history }
         ensures limit { self.new.limit ≡ self.old.limit }
     {
-        if moment > last {
-            expire_all(&self.journal, &mut self.ops, moment);
-            refill(&self.journal, &self.ops, &mut self.queue);
-        }
+        expire_all(&self.journal, &mut self.ops, moment);
+        refill(&self.journal, &self.ops, &mut self.queue);
     }
 }

@@ -23,7 +23,7 @@ pub returns-clause-ok : goal.returns-clause-ok
 returns-clause-ok c =
     let next : c.self.inside.next_req ≡ asks c.advance.new.self.history = c.self.invariant.next_req ∙ ap (λ (v : Cored). asks v.history) c.self.view_is in
     subst (λ n. Asks c.args.self.now c.take.new.self c.args.moment c.args.ask c.args.plan (record { 0 = n })) (sym next)
-    (follows-asks c.args.self.now c.advance.new.self c.take.new.self c.args.moment c.args.ask c.args.plan c.advance.ensures c.in_ok-take.ensures.ok)
+    (follows-asks c.args.self.now c.advance.new.self c.take.new.self c.args.moment c.args.ask c.args.plan c.advance.ensures c.in_ok-take.ensures.room c.in_ok-take.ensures.ok)
 
 pub returns-clause-number : goal.returns-clause-number
 returns-clause-number c =

@@ -18,6 +18,6 @@ overflow_add-self c =
 pub invariant_of-self-2 : goal.invariant_of-self-2
 invariant_of-self-2 c =
     holds-replied c.self.inside.last c.join.new.self c.give_replies.new.self _ _ _ c.give_replies.ensures.gave c.give_replies.ensures.rests
-    (c.self.invariant.next_reg ∙ sym (ap devices c.in_ok-join.ensures.adds.history))
-    (ap (λ n. n + 1) c.self.invariant.next_req ∙ sym (ap asks c.in_ok-join.ensures.adds.history))
-    (c.self.invariant.next_run ∙ sym (ap starts c.in_ok-join.ensures.adds.history))
+    (c.self.invariant.next_reg ∙ sym (ap devices c.reserve.ensures.stays.history) ∙ sym (ap devices c.in_ok-join.ensures.adds.history))
+    (ap (λ n. n + 1) (c.self.invariant.next_req ∙ sym (ap asks c.reserve.ensures.stays.history)) ∙ sym (ap asks c.in_ok-join.ensures.adds.history))
+    (c.self.invariant.next_run ∙ sym (ap starts c.reserve.ensures.stays.history) ∙ sym (ap starts c.in_ok-join.ensures.adds.history))

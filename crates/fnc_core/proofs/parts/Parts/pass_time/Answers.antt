@@ -14,8 +14,8 @@ refill-requires-clause-has_places c =
     let rests = subst (Rests c.args.last) (sym c.self.view_is) c.requires.rests in
     places-same c.self.inside.journal.history c.self.inside.ops c.expire_all.new.ops c.self.inside.queue rests.between.has_places c.expire_all.ensures.same
 
-pub returns-then-moment-last-clause-between : goal.returns-then-moment-last-clause-between
-returns-then-moment-last-clause-between c =
+pub returns-clause-between : goal.returns-clause-between
+returns-clause-between c =
     let rests = subst (Rests c.args.last) (sym c.self.view_is) c.requires.rests in
     between-later c.args.last c.args.moment _ c.expire_all.new.ops c.refill.new.queue rests c.requires.later c.requires.early
     c.expire_all.ensures.stands c.expire_all.ensures.at c.refill.ensures.waits c.refill.ensures.alive c.refill.ensures.has_places

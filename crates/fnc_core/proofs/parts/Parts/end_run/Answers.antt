@@ -8,7 +8,7 @@ use Rattle.fnc_queue.specs.Queued.{ended}
 use Rattle.fnc_core.specs.Between.{Rests}
 use Rattle.fnc_core.specs.Parted.{Parted}
 use Rattle.fnc_core.proofs.Ended.{lane-runs, room-ended, between-ended}
-use Rattle.fnc_core.proofs.parts.Parts.end_started.Goals as goal
+use Rattle.fnc_core.proofs.parts.Parts.end_run.Goals as goal
 
 pub ended-requires-2 : goal.ended-requires-2
 ended-requires-2 c =
