@@ -1,19 +1,19 @@
 // The driver: it tells a core the inputs of a session, and after each starts what may start.
 
-ghost use Rattle.std.specs.Prelude.{◌≡◌, ◌≤◌, true, IfOk, IfSome, length};
+ghost use Rattle.std.specs.Prelude.{◌≡◌, ◌≤◌, ℕ, true, IfOk, IfSome};
 ghost use Rattle.fnc_journal.specs.declared.event.Event.{Event};
 ghost use Rattle.std.specs.Bool.{OnTrue};
-ghost use Rattle.std.specs.List.{AllByRecursion};
 ghost use Rattle.fnc_journal.specs.Lawful.{in_order};
 ghost use Rattle.fnc_core.specs.Between.{IsBoundedEvent};
-ghost use Rattle.fnc_core.specs.Cored.{event_of};
+ghost use Rattle.fnc_core.specs.Cored.{Sound, event_of};
+ghost use Rattle.fnc_core.specs.Known.{LeavesFewNames};
 ghost use Rattle.fnc_driver.specs.Askable.{IsAskable};
 
 use crate::plans::Written;
 use crate::steps::Step;
 use fnc_core::{Ask, Change, Core};
-use fnc_journal::limits::GREATEST_MOMENT;
-use fnc_journal::{Entry, Event, NoMemory, Plan, Request, Text};
+use fnc_journal::limits::{GREATEST_MOMENT, MOST_DEVICES};
+use fnc_journal::{Entry, Event, NoMemory, Request, Text};
 use fnc_journal_reader::read_entry;
 use fnc_journal_text::print_one;
 use fnc_judge::{is_in_order, is_plan};
@@ -22,12 +22,27 @@ use std::alloc::Global;
 use std::process::Abort;
 use std::test::Fail;
 
+/// Whether an input leaves no more names registered than may be: it is no device, or one of the first ever.
+fn leaves_few_names(core: &Core, event: &Event) -> bool
+    requires sound { Sound core.now }
+    requires ordered { in_order event.now core.now.history ≡ true }
+    ensures { OnTrue result ((moment : ℕ) → LeavesFewNames moment event.now core.now.history) }
+{
+    match event {
+        Event::Device(device) => (device.reg.0 as usize) < MOST_DEVICES,
+        _ => true,
+    }
+}
+
 /// The change that an input makes of what a core knows.
 fn change_of(core: &Core, event: Event) -> Option<Change>
     requires ordered { in_order event core.now.history ≡ true }
     requires bounded { IsBoundedEvent event }
+    requires few { (moment : ℕ) → LeavesFewNames moment event core.now.history }
     ensures ordered { IfSome result (λ c. in_order (event_of core.now.history c) core.now.history ≡ true) }
     ensures bounded { IfSome result (λ c. IsBoundedEvent (event_of core.now.history c)) }
+    ensures few
+        { IfSome result (λ c. (moment : ℕ) → LeavesFewNames moment (event_of core.now.history c) core.now.history) }
 {
     match event {
         Event::Device(device) => Some(Change::Device(device.registration)),
@@ -48,6 +63,7 @@ fn enter(rt: &impl Abort, core: &mut Core, entry: Entry)
     assert!(rt; core.last() <= moment);
     assert!(rt; moment <= GREATEST_MOMENT);
     assert!(rt; is_in_order(&entry.event, core.journal()));
+    assert!(rt; leaves_few_names(core, &entry.event));
     let entered = match entry.event {
         Event::Pass => core.pass(moment).is_ok(),
         Event::Refused(refusal) => core.refuse(moment, refusal.line, refusal.cause).is_ok(),
@@ -60,19 +76,6 @@ fn enter(rt: &impl Abort, core: &mut Core, entry: Entry)
         },
     };
     assert!(rt; entered);
-}
-
-/// Whether a plan has no more candidates, levels and devices than a plan may have.
-fn is_small(plan: &Plan) -> bool
-    ensures { OnTrue result ((length plan.now.candidates ≤ 128) × (length plan.now.levels ≤ 9) × AllByRecursion (λ l. length l.devices ≤ 8) plan.now.levels) }
-{
-    plan.candidates.as_slice().len() <= 128
-        && plan.levels.as_slice().len() <= 9
-        && plan
-            .levels
-            .as_slice()
-            .iter()
-            .all(|l| l.devices.as_slice().len() <= 8)
 }
 
 /// What a request asks of a core.
@@ -108,7 +111,6 @@ fn ask(
             let ask = ask_of(alloc, core, request)?;
             let plan = written.plan(alloc, request.scope)?;
             assert!(rt; is_plan(core.journal(), ask.kind, ask.target.as_str(), moment, &plan));
-            assert!(rt; is_small(&plan));
             core.ask(alloc, moment, ask, plan)?;
             Ok(())
         }
