@@ -1,6 +1,35 @@
 -- The parts after a request, where the records stand for the journal with it and the queue holds what is then wanted.
-use Rattle.std.proofs.Common.{ℕ, List, ◌∷◌, Bool, true, false, ◌≡◌, ◌≤◌, ◌+◌, ◌==◌, ◌||◌, refl, ap, sym, ◌∙◌, subst, arith, length, eq-eqb, eqb-true, ne_eqb, max, cond, ◌*◌, Option, Some, None}
+use Rattle.std.proofs.Common.{
+  ℕ,
+  List,
+  ◌∷◌,
+  Bool,
+  true,
+  false,
+  ◌≡◌,
+  ◌≤◌,
+  ◌+◌,
+  ◌==◌,
+  ◌||◌,
+  refl,
+  ap,
+  sym,
+  ◌∙◌,
+  subst,
+  arith,
+  length,
+  eq-eqb,
+  eqb-true,
+  ne_eqb,
+  max,
+  cond,
+  ◌*◌,
+  Option,
+  Some,
+  None,
+}
 use Rattle.std.specs.Prelude.{option_map, unwrap_or}
+use Rattle.fnc_journal.specs.declared.limits.TheConstants.{GREATEST_JOURNAL}
 use Rattle.fnc_journal.specs.declared.event.Request.{Request}
 use Rattle.fnc_journal.specs.declared.event.Event.{Event}
 use Rattle.fnc_journal.specs.declared.plan.Plan.{Plan}
@@ -39,16 +68,20 @@ module _ (m : ℕ) (request : Request) (p : Parted) (rests : Rests m p) where
   abbrev after : History
   after = entry m event ∷ p.history
 
-  pub between-asked : (q : Parted) → Adds m event p q → in_order event p.history ≡ true → leads event m p.history ≡ true → StandsFor q.ops after → AreAt m q.ops.operations →
-      Waits after q.ops q.queue → q.queue.alive ≡ p.queue.alive → owed after ≤ q.queue.spare → length p.history + owed after + 1 ≤ p.limit → Between m q
+  pub between-asked : (q : Parted) → Adds m event p q → in_order event p.history ≡ true →
+      leads event m p.history ≡ true → StandsFor q.ops after → AreAt m q.ops.operations →
+      Waits after q.ops q.queue → q.queue.alive ≡ p.queue.alive → owed after ≤ q.queue.spare →
+      length p.history + owed after + 1 ≤ p.limit → Between m q
   between-asked q a ordered led s at w alive spare room =
-      subst (λ (h : History). Between m (record { history = h; limit = q.limit; ops = q.ops; queue = q.queue })) (sym a.history) made
+      subst (λ (h : History). Between m (record { history = h; limit = q.limit; ops = q.ops; queue = q.queue }))
+      (sym a.history) made
     where
       made : Between m (record { history = after; limit = q.limit; ops = q.ops; queue = q.queue })
       made = record {
         lawful = lawful-entered m p rests event refl ordered refl led;
         calm = (refl, rests.between.calm);
-        small = let limit : q.limit ≡ p.limit = a.limit in let small : p.limit ≤ 1_048_576 = rests.between.small in omega (arith, limit, small);
+        small = let limit : q.limit ≡ p.limit = a.limit in let small : p.limit ≤ GREATEST_JOURNAL =
+            rests.between.small in omega (arith, limit, small);
         came = omega arith;
         early = rests.between.early;
         bounded = rests.between.bounded;
@@ -58,7 +91,8 @@ module _ (m : ℕ) (request : Request) (p : Parted) (rests : Rests m p) where
         waits = w;
         lanes = λ l. ap (lane_count l) alive ∙ rests.between.lanes l;
         has_places = omega (arith, spare);
-        room = let limit : q.limit ≡ p.limit = a.limit in let now : length after + owed after ≤ q.limit = omega (arith, limit, room) in now;
+        room = let limit : q.limit ≡ p.limit = a.limit in let now : length after + owed after ≤ q.limit =
+            omega (arith, limit, room) in now;
         continues = tt;
         settled_then = ap (λ b. b || settled after m) (eq-eqb m m refl);
       }
@@ -70,7 +104,8 @@ module _ (m : ℕ) (request : Request) (p : Parted) (rests : Rests m p) where
       owed p.history + 1 ≤ p.queue.spare → Between m q
   between-joined q a ordered led room s at w same places =
       between-asked q a ordered (rw led (eq-eqb request.lead.0 request.lead.0 refl)) s at
-      (λ n. ap (λ (u : Queued). item_of n u.waiting) same ∙ rests.between.waits n ∙ sym (ap (option_map (item_for after n)) (w n)))
+      (λ n. ap (λ (u : Queued). item_of n u.waiting) same ∙ rests.between.waits n
+      ∙ sym (ap (option_map (item_for after n)) (w n)))
       (ap (λ (u : Queued). u.alive) same)
       (let more : owed after ≤ owed p.history + 1 = owes in
       let spare : q.queue.spare ≡ p.queue.spare = ap (λ (u : Queued). u.spare) same in
@@ -102,25 +137,36 @@ module _ (r : Begun) (plan : Plan) (client : List ℕ) (p : Parted) (rests : Res
   abbrev room_begun : ℕ
   room_begun = owed p.history + (2 + 2 * tries_of (all_slots (begun_by r plan p.history)))
 
-  waits-begun : (v : Kept) (q : Queued) → OthersWait r.req.0 p.ops v → Changes r.req.0 (wanted after_begun r.req.0 v) p.queue.waiting q.waiting → Waits after_begun v q
+  waits-begun : (v : Kept) (q : Queued) → OthersWait r.req.0 p.ops v →
+      Changes r.req.0 (wanted after_begun r.req.0 v) p.queue.waiting q.waiting → Waits after_begun v q
   waits-begun v q others changes n = changes n ∙ go (r.req.0 == n) refl
     where
-      go : (b : Bool) → (r.req.0 == n) ≡ b → cond b (wanted after_begun r.req.0 v) (item_of n p.queue.waiting) ≡ wanted after_begun n v
+      go : (b : Bool) → (r.req.0 == n) ≡ b → cond b (wanted after_begun r.req.0 v)
+          (item_of n p.queue.waiting) ≡ wanted after_begun n v
       go true e = ap (λ k. wanted after_begun k v) (eqb-true r.req.0 n e)
-      go false e = rests.between.waits n ∙ sym (ap (option_map (item_for after_begun n)) (others n (ne_eqb n r.req.0 (λ g. other e (eq-eqb r.req.0 n (sym g))))))
+      go false e = rests.between.waits n ∙ sym
+          (ap (option_map (item_for after_begun n))
+          (others n (ne_eqb n r.req.0 (λ g. other e (eq-eqb r.req.0 n (sym g))))))
         where
           other : (r.req.0 == n) ≡ false → (r.req.0 == n) ≡ true → ⊥
           other a b = cc
 
-  pub between-begun : (q : Parted) → Adds r.moment event_begun p q → in_order event_begun p.history ≡ true → joined p.history r.moment r.kind r.target ≡ None → plan ≡ Planned.plan (wanted_by r plan.scope) p.history →
-      length p.history + room_begun ≤ p.limit → StandsFor q.ops after_begun → AreAt r.moment q.ops.operations → OthersWait r.req.0 p.ops q.ops →
-      Changes r.req.0 (wanted after_begun r.req.0 q.ops) p.queue.waiting q.queue.waiting → q.queue.alive ≡ p.queue.alive → room_begun ≤ q.queue.spare + one_if_held r.req.0 q.queue.waiting → Between r.moment q
+  pub between-begun : (q : Parted) → Adds r.moment event_begun p q → in_order event_begun p.history ≡ true →
+      joined p.history r.moment r.kind r.target ≡ None → plan ≡ Planned.plan (wanted_by r plan.scope) p.history →
+      length p.history + room_begun ≤ p.limit → StandsFor q.ops after_begun → AreAt r.moment q.ops.operations →
+      OthersWait r.req.0 p.ops q.ops →
+      Changes r.req.0 (wanted after_begun r.req.0 q.ops) p.queue.waiting q.queue.waiting →
+      q.queue.alive ≡ p.queue.alive → room_begun ≤ q.queue.spare + one_if_held r.req.0 q.queue.waiting →
+      Between r.moment q
   between-begun q a ordered led planned room s at others changes alive spare =
       between-asked r.moment (begun_request r client plan.scope) p rests q a ordered
-      (ap (λ (x : Option Operation). r.req.0 == unwrap_or (option_map (λ (o : Operation). o.req) x) r.req.0) led ∙ eq-eqb r.req.0 r.req.0 refl)
+      (ap (λ (x : Option Operation). r.req.0 == unwrap_or (option_map (λ (o : Operation). o.req) x) r.req.0) led
+      ∙ eq-eqb r.req.0 r.req.0 refl)
       s at (waits-begun q.ops q.queue others changes) alive
-      (let one : one_if_held r.req.0 q.queue.waiting ≤ 1 = one-most r.req.0 q.queue.waiting in omega (arith, owes, one, spare))
+      (let one : one_if_held r.req.0 q.queue.waiting ≤ 1 =
+      one-most r.req.0 q.queue.waiting in omega (arith, owes, one, spare))
       (omega (arith, owes, room))
     where
       owes : owed after_begun ≡ owed p.history + 1 + 2 * tries_of (all_slots (begun_by r plan p.history))
-      owes = owed-begun r plan p.history client rests.between.lawful (ordered-next (begun_request r client plan.scope) p.history ordered) planned rests.between.bounded
+      owes = owed-begun r plan p.history client rests.between.lawful
+          (ordered-next (begun_request r client plan.scope) p.history ordered) planned rests.between.bounded

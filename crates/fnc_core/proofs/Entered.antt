@@ -1,5 +1,30 @@
 -- The parts after an input that is no request, no start and no exit.
-use Rattle.std.proofs.Common.{ℕ, ◌∷◌, Bool, true, false, ◌≡◌, ◌≤◌, ◌+◌, ◌==◌, ◌||◌, refl, ap, ap₂, sym, ◌∙◌, subst, Option, Some, None, cond, arith, length, eq-eqb, is_some}
+use Rattle.std.proofs.Common.{
+  ℕ,
+  ◌∷◌,
+  Bool,
+  true,
+  false,
+  ◌≡◌,
+  ◌≤◌,
+  ◌+◌,
+  ◌==◌,
+  ◌||◌,
+  refl,
+  ap,
+  ap₂,
+  sym,
+  ◌∙◌,
+  subst,
+  Option,
+  Some,
+  None,
+  cond,
+  arith,
+  length,
+  eq-eqb,
+  is_some,
+}
 use Rattle.std.specs.Prelude.{option_map}
 use Rattle.fnc_journal.specs.declared.definition.Registration.{Registration}
 use Rattle.fnc_journal.specs.declared.event.Event.{Event}
@@ -35,11 +60,14 @@ use Rattle.fnc_core.proofs.Resting.{lawful-entered}
 some_registration : (q r : Registration) → ◌≡◌ {A = Option Registration} (Some q) (Some r) → q ≡ r
 some_registration q r e = cc
 
-pub bounded-push : (m : ℕ) (event : Event) (h : History) → AreBounded h → IsBoundedEvent event → AreBounded (entry m event ∷ h)
+pub bounded-push : (m : ℕ) (event : Event) (h : History) → AreBounded h → IsBoundedEvent event →
+    AreBounded (entry m event ∷ h)
 bounded-push m (Event.Device device) h b k n r e = go (registration n h) refl (n == device.reg.0) e
   where
-    go : (x : Option Registration) → registration n h ≡ x → (c : Bool) → or_here x (cond c (Some device.registration) None) ≡ Some r → IsBounded r.definition
-    go None f true g = subst (λ (x : Registration). IsBounded x.definition) (some_registration device.registration r g) k
+    go : (x : Option Registration) → registration n h ≡ x → (c : Bool) →
+        or_here x (cond c (Some device.registration) None) ≡ Some r → IsBounded r.definition
+    go None f true g = subst (λ (x : Registration). IsBounded x.definition)
+        (some_registration device.registration r g) k
     go None f false g = cc
     go (Some q) f c g = b n r (f ∙ sym (or_here-some q (cond c (Some device.registration) None)) ∙ g)
 bounded-push m _ h b k n r e = b n r e
@@ -66,7 +94,8 @@ an_input (Event.Reply reply) q r = cc
 an_input (Event.Start start) q r = cc
 an_input _ q r = refl
 
-module _ (m : ℕ) (event : Event) (p : Parted) (rests : Rests m p) (quiet : is_waiting event ≡ false) (still : is_running event ≡ false) (ordered : in_order event p.history ≡ true) where
+module _ (m : ℕ) (event : Event) (p : Parted) (rests : Rests m p) (quiet : is_waiting event ≡ false)
+    (still : is_running event ≡ false) (ordered : in_order event p.history ≡ true) where
   abbrev after : History
   after = entry m event ∷ p.history
 
@@ -74,30 +103,39 @@ module _ (m : ℕ) (event : Event) (p : Parted) (rests : Rests m p) (quiet : is_
   pub wanted-entered : (v : Kept) (req : ℕ) → StandsFor v p.history → wanted after req v ≡ wanted p.history req v
   wanted-entered v req s = go (waiting req v.operations) refl
     where
-      go : (x : Option Standing) → waiting req v.operations ≡ x → option_map (item_for after req) x ≡ option_map (item_for p.history req) x
+      go : (x : Option Standing) → waiting req v.operations ≡ x →
+          option_map (item_for after req) x ≡ option_map (item_for p.history req) x
       go None e = refl
       go (Some t) e =
           let known : is_some (registration t.reg.0 p.history) ≡ true = waiting-known p.history req v s t e in
-          ap₂ (λ (l : ℕ) (c : Option ℕ). Some (record { req = record { 0 = req }; lane = record { 0 = l }; ready = t.ready; cap = c }))
-          (lane-push t.reg.0 m event p.history rests.between.lawful ordered known) (cap-push t.reg.0 m event p.history known)
+          ap₂ (λ (l : ℕ) (c : Option ℕ). Some (record
+          { req = record { 0 = req }; lane = record { 0 = l }; ready = t.ready; cap = c }))
+          (lane-push t.reg.0 m event p.history rests.between.lawful ordered known)
+          (cap-push t.reg.0 m event p.history known)
 
   waits-entered : (v : Kept) → AllWait p.ops v → Waits after v p.queue
-  waits-entered v w req = rests.between.waits req ∙ sym (wanted-entered p.ops req rests.between.stands) ∙ sym (ap (option_map (item_for after req)) (w req))
+  waits-entered v w req = rests.between.waits req ∙ sym (wanted-entered p.ops req rests.between.stands)
+      ∙ sym (ap (option_map (item_for after req)) (w req))
 
   -- the records of the same operations have as many items
-  held-entered : (v : Kept) → StandsFor v after → held v.operations p.queue.waiting ≡ held p.ops.operations p.queue.waiting
+  held-entered : (v : Kept) → StandsFor v after →
+      held v.operations p.queue.waiting ≡ held p.ops.operations p.queue.waiting
   held-entered v s =
       held-stands after p.queue.waiting v.operations (open_operations after) s.each
       ∙ ap (λ os. held_of os p.queue.waiting) (open_operations-frame m event p.history quiet)
-      ∙ sym (held-stands p.history p.queue.waiting p.ops.operations (open_operations p.history) rests.between.stands.each)
+      ∙ sym (held-stands p.history p.queue.waiting p.ops.operations
+      (open_operations p.history) rests.between.stands.each)
 
   places-entered : (v : Kept) → StandsFor v after → HasPlaces after v p.queue
   places-entered v s =
       let owes : owed after ≡ owed p.history = owed-frame m event p.history quiet still in
       let holds : held v.operations p.queue.waiting ≡ held p.ops.operations p.queue.waiting = held-entered v s in
-      let runs : length (alive_runs after) ≡ length (alive_runs p.history) = ap length (alive_runs-frame m event p.history still) in
-      let places : owed p.history ≤ p.queue.spare + held p.ops.operations p.queue.waiting + length (alive_runs p.history) = rests.between.has_places in
-      let now : owed after ≤ p.queue.spare + held v.operations p.queue.waiting + length (alive_runs after) = omega (arith, owes, holds, runs, places) in
+      let runs : length (alive_runs after) ≡ length (alive_runs p.history) =
+      ap length (alive_runs-frame m event p.history still) in
+      let places : owed p.history ≤ p.queue.spare + held p.ops.operations p.queue.waiting + length
+      (alive_runs p.history) = rests.between.has_places in
+      let now : owed after ≤ p.queue.spare + held v.operations p.queue.waiting + length (alive_runs after) =
+      omega (arith, owes, holds, runs, places) in
       now
 
   -- the parts with one more entry, and with records that stand for it
@@ -105,14 +143,18 @@ module _ (m : ℕ) (event : Event) (p : Parted) (rests : Rests m p) (quiet : is_
       LeavesFewNames m event p.history → RoomFor p 1 → StandsFor q.ops after → AreAt m q.ops.operations →
       AllWait p.ops q.ops → Between m q
   between-entered q a same bounded names room s at w =
-      subst (λ (h : History). Between m (record { history = h; limit = q.limit; ops = q.ops; queue = q.queue })) (sym a.history)
-      (subst (λ (u : Queued). Between m (record { history = after; limit = q.limit; ops = q.ops; queue = u })) (sym same) made)
+      subst (λ (h : History). Between m (record { history = h; limit = q.limit; ops = q.ops; queue = q.queue }))
+      (sym a.history)
+      (subst (λ (u : Queued). Between m (record { history = after; limit = q.limit; ops = q.ops; queue = u }))
+      (sym same) made)
     where
       made : Between m (record { history = after; limit = q.limit; ops = q.ops; queue = p.queue })
       made = record {
-        lawful = lawful-entered m p rests event (an_input event quiet still) ordered (no_exit event p.history still) (no_lead m event p.history quiet);
+        lawful = lawful-entered m p rests event (an_input event quiet still) ordered (no_exit event p.history still)
+            (no_lead m event p.history quiet);
         calm = (calm-kept m event p.history still, rests.between.calm);
-        small = let limit : q.limit ≡ p.limit = a.limit in let small : p.limit ≤ GREATEST_JOURNAL = rests.between.small in omega (arith, limit, small);
+        small = let limit : q.limit ≡ p.limit = a.limit in let small : p.limit ≤ GREATEST_JOURNAL =
+            rests.between.small in omega (arith, limit, small);
         came = omega arith;
         early = rests.between.early;
         bounded = bounded-push m event p.history rests.between.bounded bounded;
@@ -133,7 +175,8 @@ module _ (m : ℕ) (event : Event) (p : Parted) (rests : Rests m p) (quiet : is_
       }
 
 -- an entry that touches no operation changes nothing of what is due
-pub settled-quiet : (m n : ℕ) (event : Event) (h : History) → is_quiet event ≡ true → settled (entry m event ∷ h) n ≡ settled h n
+pub settled-quiet : (m n : ℕ) (event : Event) (h : History) → is_quiet event ≡ true →
+    settled (entry m event ∷ h) n ≡ settled h n
 settled-quiet m n (Event.Ask ask) h q = cc
 settled-quiet m n (Event.Exit ended) h q = cc
 settled-quiet m n (Event.Confirm confirmation) h q = cc
@@ -166,8 +209,10 @@ pub rests-entered : (m : ℕ) (event : Event) (p q : Parted) → Rests m p → i
     Adds m event p q → q.queue ≡ p.queue → q.ops ≡ p.ops → Rests m q
 rests-entered m event p q r quiet ordered bounded names room a same kept = record {
   between =
-      between-entered m event p r (quiet-waiting event quiet) (quiet-running event quiet) ordered q a same bounded names room
-      (subst (λ (v : Kept). StandsFor v (entry m event ∷ p.history)) (sym kept) (stands-quiet p.ops m event p.history (quiet-untold event quiet) r.between.stands))
+      between-entered m event p r (quiet-waiting event quiet)
+      (quiet-running event quiet) ordered q a same bounded names room
+      (subst (λ (v : Kept). StandsFor v (entry m event ∷ p.history)) (sym kept)
+      (stands-quiet p.ops m event p.history (quiet-untold event quiet) r.between.stands))
       (subst (λ (v : Kept). AreAt m v.operations) (sym kept) r.between.at)
       (λ n. ap (λ (v : Kept). waiting n v.operations) kept);
   settled_now = ap (λ (h : History). settled h m) a.history ∙ settled-quiet m m event p.history quiet ∙ r.settled_now;

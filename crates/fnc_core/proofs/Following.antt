@@ -1,5 +1,23 @@
 -- An input that enters after an advance, and a request that is taken or not.
-use Rattle.std.proofs.Common.{ℕ, [], ◌∷◌, ◌++◌, ◌≡◌, refl, ap, ap₂, sym, ◌∙◌, subst, Option, Some, None, Result, Ok, Err}
+use Rattle.std.proofs.Common.{
+  ℕ,
+  [],
+  ◌∷◌,
+  ◌++◌,
+  ◌≡◌,
+  refl,
+  ap,
+  ap₂,
+  sym,
+  ◌∙◌,
+  subst,
+  Option,
+  Some,
+  None,
+  Result,
+  Ok,
+  Err,
+}
 use Rattle.std.specs.Prelude.{option_map, unwrap_or, OnErr, IfErr}
 use Rattle.fnc_journal.specs.declared.event.Event.{Event}
 use Rattle.fnc_journal.specs.declared.entry.Req.{Req}
@@ -67,7 +85,8 @@ module _ {old new : Cored} {m : ℕ} {event : Event} {need : ℕ} (e : Enters ol
 
 -- a device's number is all that a change takes from the journal
 pub same-event : (g h : History) (change : Change) → devices g ≡ devices h → event_of g change ≡ event_of h change
-same-event g h (Change.Device registration) e = ap (λ n. Event.Device (record { reg = record { 0 = n }; registration = registration })) e
+same-event g h (Change.Device registration) e =
+    ap (λ n. Event.Device (record { reg = record { 0 = n }; registration = registration })) e
 same-event g h (Change.Gone reg) e = refl
 same-event g h (Change.Level set) e = refl
 same-event g h (Change.LevelGone cleared) e = refl
@@ -79,11 +98,14 @@ pub none-joined : (x : Option Operation) → ◌≡◌ {A = Option ℕ} None (op
 none-joined None e = refl
 none-joined (Some o) e = cc
 
-pub lead-joined : (x : Option Operation) (lead : Req) (n : ℕ) → option_map (λ (o : Operation). o.req) x ≡ Some lead.0 → lead ≡ record { 0 = unwrap_or (option_map (λ (o : Operation). o.req) x) n }
+pub lead-joined : (x : Option Operation) (lead : Req) (n : ℕ) → option_map (λ (o : Operation). o.req) x ≡ Some lead.0 →
+    lead ≡ record { 0 = unwrap_or (option_map (λ (o : Operation). o.req) x) n }
 lead-joined x lead n e = ap (λ (y : Option ℕ). record { 0 = unwrap_or y n }) (sym e)
 
 -- a request that was not taken left everything as it was
-pub refused-by : (x : Result (Unit {0}) AskRefusal) (old new : Cored) (need : ℕ) (k : Ask) (p : Plan) → ask_need old k p ≡ need → IfErr x (IsRefusal new need) → OnErr x (new ≡ old) → IfErr x (IsAskRefusal new k p)
+pub refused-by : (x : Result (Unit {0}) AskRefusal) (old new : Cored) (need : ℕ) (k : Ask) (p : Plan) →
+    ask_need old k p ≡ need → IfErr x (IsRefusal new need) → OnErr x (new ≡ old) → IfErr x (IsAskRefusal new k p)
 refused-by (Ok u) old new need k p e r s = r
 refused-by (Err refusal) old new need k p e r s =
-    subst (λ (v : Cored). IsRefusal new (ask_need v k p) refusal) (sym s) (subst (λ n. IsRefusal new n refusal) (sym e) r)
+    subst (λ (v : Cored). IsRefusal new (ask_need v k p) refusal) (sym s)
+    (subst (λ n. IsRefusal new n refusal) (sym e) r)

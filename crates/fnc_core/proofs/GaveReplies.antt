@@ -6,7 +6,8 @@ use Rattle.fnc_core.specs.Between.{AddsReply, GaveReplies, entry}
 use Rattle.fnc_core.specs.Parted.{Parted}
 
 -- where nothing was due at first, nothing is due after no reply
-pub gave-more : (m : ℕ) (first old new : Parted) → GaveReplies m first old → AddsReply m old new → settled old.history m ≡ false → GaveReplies m first new
+pub gave-more : (m : ℕ) (first old new : Parted) → GaveReplies m first old → AddsReply m old new →
+    settled old.history m ≡ false → GaveReplies m first new
 gave-more m first old new g a u = record {
   replies = entry m (Event.Reply (record { req = a.req; answer = a.answer })) ∷ g.replies;
   are = ((refl, refl), g.are);

@@ -1,5 +1,22 @@
 -- A call adds entries at the journal's end alone, and so do many calls.
-use Rattle.std.proofs.Common.{ℕ, List, [], ◌∷◌, ◌++◌, true, false, ◌≡◌, ◌≤◌, refl, ap, sym, ◌∙◌, subst, arith, append_assoc}
+use Rattle.std.proofs.Common.{
+  ℕ,
+  List,
+  [],
+  ◌∷◌,
+  ◌++◌,
+  true,
+  false,
+  ◌≡◌,
+  ◌≤◌,
+  refl,
+  ap,
+  sym,
+  ◌∙◌,
+  subst,
+  arith,
+  append_assoc,
+}
 use Rattle.std.specs.Prelude.{not}
 use Rattle.std.specs.List.{AllByRecursion}
 use Rattle.std.proofs.lemmas.List.Elements.{filter-append}
@@ -19,7 +36,8 @@ use Rattle.fnc_core.proofs.Following.{entered-answered, entered-history, entered
 abbrev pub AreBetween : ℕ → ℕ → History → Type 0
 AreBetween m n h = AllByRecursion (λ (e : Entry). (m ≤ e.moment) × (e.moment ≤ n)) h
 
-each-both : {X : Type 0} (P : X → Type 0) (xs ys : List X) → AllByRecursion P xs → AllByRecursion P ys → AllByRecursion P (xs ++ ys)
+each-both : {X : Type 0} (P : X → Type 0) (xs ys : List X) → AllByRecursion P xs → AllByRecursion P ys →
+    AllByRecursion P (xs ++ ys)
 each-both P [] ys a b = b
 each-both P (x ∷ xs) ys a b = (a.0, each-both P xs ys a.1 b)
 
@@ -34,14 +52,18 @@ replies-apart m [] a = refl
 replies-apart m (r ∷ rs) a = let one : is_reply r.event ≡ true = a.0.0 in rw one (replies-apart m rs a.1)
 
 replies-pass : (m : ℕ) (rs h : History) → AreReplies m rs → but_replies (rs ++ h) ≡ but_replies h
-replies-pass m rs h a = filter-append (λ (e : Entry). not (is_reply e.event)) rs h ∙ ap (λ xs. xs ++ but_replies h) (replies-apart m rs a)
+replies-pass m rs h a = filter-append (λ (e : Entry). not (is_reply e.event)) rs h
+    ∙ ap (λ xs. xs ++ but_replies h) (replies-apart m rs a)
 
 -- an entry that is no reply, between replies
-entry-passes : (m : ℕ) (event : Event) (rs advance h : History) → AreReplies m rs → AreReplies m advance → is_reply event ≡ false →
+entry-passes : (m : ℕ) (event : Event) (rs advance h : History) → AreReplies m rs → AreReplies m advance →
+    is_reply event ≡ false →
     but_replies (rs ++ entry m event ∷ (advance ++ h)) ≡ entry m event ∷ but_replies h
 entry-passes m event rs advance h a b unreply =
-    let tail : but_replies (entry m event ∷ (advance ++ h)) ≡ entry m event ∷ but_replies (advance ++ h) = rw unreply refl in
-    replies-pass m rs (entry m event ∷ (advance ++ h)) a ∙ tail ∙ ap (λ xs. entry m event ∷ xs) (replies-pass m advance h b)
+    let tail : but_replies (entry m event ∷ (advance ++ h)) ≡ entry m event ∷ but_replies (advance ++ h) =
+    rw unreply refl in
+    replies-pass m rs (entry m event ∷ (advance ++ h)) a ∙ tail
+    ∙ ap (λ xs. entry m event ∷ xs) (replies-pass m advance h b)
 
 module _ (old new : Cored) where
   grows-advanced : (m : ℕ) → old.last ≤ m → Advances old new m → Grows old new
@@ -58,7 +80,8 @@ module _ (old new : Cored) where
       let here : AreBetween old.last m (entry m event ∷ x.advances.advance) =
       ((l, omega arith), replies-between old.last m x.advances.advance x.advances.at_once l) in
       let came : AreBetween old.last m (x.follows.replies ++ entry m event ∷ x.advances.advance) =
-      each-both (λ (e : Entry). (old.last ≤ e.moment) × (e.moment ≤ m)) x.follows.replies (entry m event ∷ x.advances.advance)
+      each-both (λ (e : Entry). (old.last ≤ e.moment) × (e.moment ≤ m)) x.follows.replies
+      (entry m event ∷ x.advances.advance)
       (replies-between old.last m x.follows.replies (entered-answered x) l) here in
       record {
         more = x.follows.replies ++ entry m event ∷ x.advances.advance;
@@ -83,7 +106,8 @@ module _ (old new : Cored) where
       }
 
   grows-stayed : new ≡ old → Grows old new
-  grows-stayed same = subst (λ (v : Cored). Grows old v) (sym same) (record { more = []; history = refl; came = tt; later = omega arith; limit = refl })
+  grows-stayed same = subst (λ (v : Cored). Grows old v) (sym same)
+      (record { more = []; history = refl; came = tt; later = omega arith; limit = refl })
 
   grows-call : IsCall old new → Grows old new
   grows-call (IsCall.Advanced m l x) = grows-advanced m l x
@@ -96,7 +120,8 @@ module _ (old new : Cored) where
       but_replies new.history ≡ entry m event ∷ but_replies old.history
   entered-in m event need unreply x =
       ap but_replies (entered-history x)
-      ∙ entry-passes m event x.follows.replies x.advances.advance old.history (entered-answered x) x.advances.at_once unreply
+      ∙ entry-passes m event x.follows.replies x.advances.advance old.history
+      (entered-answered x) x.advances.at_once unreply
 
   entered-call : (call : IsCall old new) → but_replies new.history ≡ entered_by old new call ++ but_replies old.history
   entered-call (IsCall.Advanced m l x) = ap but_replies x.history ∙ replies-pass m x.advance old.history x.at_once
@@ -121,8 +146,12 @@ grows-twice a b c g k =
       more = k.more ++ g.more;
       history = k.history ∙ ap (λ h. k.more ++ h) g.history ∙ sym (append_assoc k.more g.more a.history);
       came = each-both (λ (e : Entry). (a.last ≤ e.moment) × (e.moment ≤ c.last)) k.more g.more
-          (each-map (λ (e : Entry). (b.last ≤ e.moment) × (e.moment ≤ c.last)) (λ (e : Entry). (a.last ≤ e.moment) × (e.moment ≤ c.last)) k.more (λ e i. (omega (arith, first, i.0), i.1)) k.came)
-          (each-map (λ (e : Entry). (a.last ≤ e.moment) × (e.moment ≤ b.last)) (λ (e : Entry). (a.last ≤ e.moment) × (e.moment ≤ c.last)) g.more (λ e i. (i.0, omega (arith, second, i.1))) g.came);
+          (each-map (λ (e : Entry). (b.last ≤ e.moment) × (e.moment ≤ c.last))
+          (λ (e : Entry). (a.last ≤ e.moment) × (e.moment ≤ c.last)) k.more
+          (λ e i. (omega (arith, first, i.0), i.1)) k.came)
+          (each-map (λ (e : Entry). (a.last ≤ e.moment) × (e.moment ≤ b.last))
+          (λ (e : Entry). (a.last ≤ e.moment) × (e.moment ≤ c.last)) g.more
+          (λ e i. (i.0, omega (arith, second, i.1))) g.came);
       later = omega (arith, first, second);
       limit = k.limit ∙ g.limit;
     }
@@ -132,7 +161,8 @@ pub grows-all : (v : Cored) (vs : List Cored) → AreCalls v vs → Grows v (aft
 grows-all v [] calls = grows-stayed v v refl
 grows-all v (w ∷ ws) calls = grows-twice v w (after_all w ws) (grows-call v w calls.0) (grows-all w ws calls.1)
 
-pub entered-all : (v : Cored) (vs : List Cored) (calls : AreCalls v vs) → but_replies (after_all v vs).history ≡ entered_by_all v vs calls ++ but_replies v.history
+pub entered-all : (v : Cored) (vs : List Cored) (calls : AreCalls v vs) →
+    but_replies (after_all v vs).history ≡ entered_by_all v vs calls ++ but_replies v.history
 entered-all v [] calls = refl
 entered-all v (w ∷ ws) calls =
     entered-all w ws calls.1 ∙ ap (λ h. entered_by_all w ws calls.1 ++ h) (entered-call v w calls.0) ∙

@@ -1,5 +1,33 @@
 -- Few names stay registered and levels stay within their bounds, so the plan of every request is small.
-use Rattle.std.proofs.Common.{ℕ, List, [], ◌∷◌, ◌++◌, Bool, true, false, ◌≡◌, ◌≤◌, ◌<◌, ◌+◌, ◌==◌, ◌&&◌, cond, refl, ap, sym, ◌∙◌, subst, Option, Some, None, arith, length, map, ltb}
+use Rattle.std.proofs.Common.{
+  ℕ,
+  List,
+  [],
+  ◌∷◌,
+  ◌++◌,
+  Bool,
+  true,
+  false,
+  ◌≡◌,
+  ◌≤◌,
+  ◌<◌,
+  ◌+◌,
+  ◌==◌,
+  ◌&&◌,
+  cond,
+  refl,
+  ap,
+  sym,
+  ◌∙◌,
+  subst,
+  Option,
+  Some,
+  None,
+  arith,
+  length,
+  map,
+  ltb,
+}
 use Rattle.std.specs.Prelude.{int_lt, option_map}
 use Rattle.std.specs.List.{AllByRecursion}
 use Rattle.std.proofs.lemmas.List.{length-map}
@@ -58,7 +86,8 @@ use Rattle.fnc_core.specs.Known.{
 use Rattle.fnc_core.proofs.Replied.{replied}
 
 -- what counts in one journal counts in another: there are no more in the first
-registered-less : (g h : History) → ((event : Event) → is_registered_here g event ≡ true → is_registered_here h event ≡ true) →
+registered-less : (g h : History) → ((event : Event) → is_registered_here g event ≡ true →
+    is_registered_here h event ≡ true) →
     (es : History) → registered_among g es ≤ registered_among h es
 registered-less g h f [] = omega arith
 registered-less g h f (e ∷ es) =
@@ -66,7 +95,8 @@ registered-less g h f (e ∷ es) =
   where
     go : (b : Bool) → is_registered_here g e.event ≡ b → (c : Bool) → is_registered_here h e.event ≡ c →
         registered_among g es ≤ registered_among h es →
-        cond b (registered_among g es + 1) (registered_among g es) ≤ cond c (registered_among h es + 1) (registered_among h es)
+        cond b (registered_among g es + 1) (registered_among g es) ≤ cond c (registered_among h es + 1)
+        (registered_among h es)
     go true p true q ih = omega (arith, ih)
     go true p false q ih = let counts : is_registered_here h e.event ≡ true = f e.event p in cc
     go false p true q ih = omega (arith, ih)
@@ -98,7 +128,8 @@ devices-more m event h = go (is_device event)
 -- where so few devices ever were registered, one more leaves few names
 pub few-ever : (m : ℕ) (event : Event) (h : History) → devices h + 1 ≤ MOST_DEVICES → LeavesFewNames m event h
 few-ever m event h k =
-    let most : names_registered (entry m event ∷ h) ≤ devices (entry m event ∷ h) = registered-most (entry m event ∷ h) (entry m event ∷ h) in
+    let most : names_registered (entry m event ∷ h) ≤ devices (entry m event ∷ h) =
+    registered-most (entry m event ∷ h) (entry m event ∷ h) in
     let more : devices (entry m event ∷ h) ≤ devices h + 1 = devices-more m event h in
     let few : names_registered (entry m event ∷ h) ≤ MOST_DEVICES = omega (arith, most, more, k) in
     few
@@ -109,7 +140,8 @@ current-before : (m : ℕ) (event : Event) (h : History) → is_device event ≡
 current-before m event h n (Event.Device device) e = go event n e
   where
     go : (event : Event) → is_device event ≡ false →
-        is_number (current_after device.registration.name event (current device.registration.name h)) device.reg.0 ≡ true →
+        is_number (current_after device.registration.name event (current device.registration.name h)) device.reg.0
+        ≡ true →
         is_number (current device.registration.name h) device.reg.0 ≡ true
     go (Event.Device other) n e = cc
     go (Event.Gone reg) n e = gone (is_number (current device.registration.name h) reg.0) e
@@ -126,12 +158,14 @@ uncounted h (Event.Device device) n = cc
 uncounted h _ n = refl
 
 -- it leaves few names where few stood
-pub few-undevice : (m : ℕ) (event : Event) (h : History) → is_device event ≡ false → KnowsFew h → LeavesFewNames m event h
+pub few-undevice : (m : ℕ) (event : Event) (h : History) → is_device event ≡ false → KnowsFew h →
+    LeavesFewNames m event h
 few-undevice m event h n k =
     let less : registered_among (entry m event ∷ h) h ≤ registered_among h h =
     registered-less (entry m event ∷ h) h (current-before m event h n) h in
     let same : names_registered (entry m event ∷ h) ≡ registered_among (entry m event ∷ h) h =
-    ap (λ b. cond b (registered_among (entry m event ∷ h) h + 1) (registered_among (entry m event ∷ h) h)) (uncounted (entry m event ∷ h) event n) in
+    ap (λ b. cond b (registered_among (entry m event ∷ h) h + 1) (registered_among (entry m event ∷ h) h))
+    (uncounted (entry m event ∷ h) event n) in
     let names : registered_among h h ≤ MOST_DEVICES = k.names in
     let few : names_registered (entry m event ∷ h) ≤ MOST_DEVICES = omega (arith, less, same, names) in
     few
@@ -167,10 +201,12 @@ bounded-level : (event : Event) → IsBoundedEvent event → IsBoundedLevel even
 bounded-level (Event.Level set) b = b
 bounded-level _ b = tt
 
-pub knows-push : (m : ℕ) (event : Event) (h : History) → KnowsFew h → IsBoundedEvent event → LeavesFewNames m event h → KnowsFew (entry m event ∷ h)
+pub knows-push : (m : ℕ) (event : Event) (h : History) → KnowsFew h → IsBoundedEvent event → LeavesFewNames m event h →
+    KnowsFew (entry m event ∷ h)
 knows-push m event h k b few = record { names = few; levels = (bounded-level event b, k.levels) }
 
-pub knows-undevice : (m : ℕ) (event : Event) (h : History) → is_device event ≡ false → KnowsFew h → IsBoundedEvent event → KnowsFew (entry m event ∷ h)
+pub knows-undevice : (m : ℕ) (event : Event) (h : History) → is_device event ≡ false → KnowsFew h →
+    IsBoundedEvent event → KnowsFew (entry m event ∷ h)
 knows-undevice m event h n k b = knows-push m event h k b (few-undevice m event h n k)
 
 -- candidates are among the names that are registered
@@ -179,7 +215,8 @@ module _ (w : Wanted) (h : History) where
   with-one d [] = refl
   with-one d (c ∷ cs) = go (int_lt c.definition.priority d.definition.priority) (with-one d cs)
     where
-      go : (b : Bool) → length (with_candidate d cs) ≡ length cs + 1 → length (cond b (d ∷ c ∷ cs) (c ∷ with_candidate d cs)) ≡ length (c ∷ cs) + 1
+      go : (b : Bool) → length (with_candidate d cs) ≡ length cs + 1 →
+          length (cond b (d ∷ c ∷ cs) (c ∷ with_candidate d cs)) ≡ length (c ∷ cs) + 1
       go true ih = let more : length (d ∷ c ∷ cs) ≡ length (c ∷ cs) + 1 = omega arith in more
       go false ih = let more : length (c ∷ with_candidate d cs) ≡ length (c ∷ cs) + 1 = omega (arith, ih) in more
 
@@ -191,12 +228,16 @@ module _ (w : Wanted) (h : History) where
           length (with_any (candidate_here w h event) (candidates_among w h es))
           ≤ cond (is_registered_here h event) (registered_among h es + 1) (registered_among h es)
       go (Event.Device device) ih =
-          here (record { reg = device.reg.0; definition = device.registration.definition }) (is_number (current device.registration.name h) device.reg.0) (is_candidate w h (record { reg = device.reg.0; definition = device.registration.definition })) ih
+          here (record { reg = device.reg.0; definition = device.registration.definition })
+          (is_number (current device.registration.name h) device.reg.0)
+          (is_candidate w h (record { reg = device.reg.0; definition = device.registration.definition })) ih
         where
           here : (d : Device) (b c : Bool) → length (candidates_among w h es) ≤ registered_among h es →
-              length (with_any (cond (b && c) (Some d) None) (candidates_among w h es)) ≤ cond b (registered_among h es + 1) (registered_among h es)
+              length (with_any (cond (b && c) (Some d) None) (candidates_among w h es)) ≤ cond b
+              (registered_among h es + 1) (registered_among h es)
           here d true true ih =
-              let more : length (with_candidate d (candidates_among w h es)) ≡ length (candidates_among w h es) + 1 = with-one d (candidates_among w h es) in
+              let more : length (with_candidate d (candidates_among w h es)) ≡ length (candidates_among w h es) + 1 =
+              with-one d (candidates_among w h es) in
               omega (arith, ih, more)
           here d true false ih = omega (arith, ih)
           here d false c ih = ih
@@ -207,10 +248,12 @@ module _ (w : Wanted) (h : History) where
     where
       go : (s : Scope) → length (candidates_by s (map (candidate w h) (candidates_among w h h))) ≤ MOST_DEVICES
       go Scope.Nothing =
-          let same : length (map (candidate w h) (candidates_among w h h)) ≡ length (candidates_among w h h) = length-map (candidates_among w h h) (candidate w h) in
+          let same : length (map (candidate w h) (candidates_among w h h)) ≡ length (candidates_among w h h) =
+          length-map (candidates_among w h h) (candidate w h) in
           let few : length (candidates_among w h h) ≤ registered_among h h = among-few h in
           let names : registered_among h h ≤ MOST_DEVICES = k.names in
-          let most : length (map (candidate w h) (candidates_among w h h)) ≤ MOST_DEVICES = omega (arith, same, few, names) in
+          let most : length (map (candidate w h) (candidates_among w h h)) ≤ MOST_DEVICES =
+          omega (arith, same, few, names) in
           most
       go Scope.Name = omega arith
       go (Scope.Pattern n) = omega arith
@@ -223,7 +266,8 @@ small-with : (l : Level) (ls : List Level) → IsSmallLevel l.index l.devices �
 small-with l [] s a = (s, tt)
 small-with l (k ∷ ks) s a = go (ltb l.index k.index) (l.index == k.index) (small-with l ks s a.1)
   where
-    go : (b c : Bool) → AreSmall (with_level l ks) → AreSmall (cond b (l ∷ k ∷ ks) (cond c (l ∷ ks) (k ∷ with_level l ks)))
+    go : (b c : Bool) → AreSmall (with_level l ks) →
+        AreSmall (cond b (l ∷ k ∷ ks) (cond c (l ∷ ks) (k ∷ with_level l ks)))
     go true c ih = (s, a)
     go false true ih = (s, a.1)
     go false false ih = (a.0, ih)
@@ -236,7 +280,8 @@ small-without index (k ∷ ks) a = go (index == k.index) (small-without index ks
     go true ih = a.1
     go false ih = (a.0, ih)
 
-levels-small : (target : LevelTarget) (h : History) → AllByRecursion (λ (e : Entry). IsBoundedLevel e.event) h → AreSmall (levels target h)
+levels-small : (target : LevelTarget) (h : History) → AllByRecursion (λ (e : Entry). IsBoundedLevel e.event) h →
+    AreSmall (levels target h)
 levels-small target [] k = tt
 levels-small target (e ∷ before) k = go e.event k.0 (levels-small target before k.1)
   where
@@ -244,17 +289,22 @@ levels-small target (e ∷ before) k = go e.event k.0 (levels-small target befor
         AreSmall (levels_after target (length before) event (levels target before))
     go (Event.Level set_) s a = set (same_target target set_.target)
       where
-        set : (b : Bool) → AreSmall (cond b (with_level (record { at = length before; index = set_.index; devices = set_.devices }) (levels target before)) (levels target before))
-        set true = small-with (record { at = length before; index = set_.index; devices = set_.devices }) (levels target before) s a
+        set : (b : Bool) → AreSmall (cond b (with_level
+            (record { at = length before; index = set_.index; devices = set_.devices }) (levels target before))
+            (levels target before))
+        set true = small-with (record { at = length before; index = set_.index; devices = set_.devices })
+            (levels target before) s a
         set false = a
     go (Event.LevelGone cleared) s a = gone (same_target target cleared.target)
       where
-        gone : (b : Bool) → AreSmall (cond b (without_level cleared.index (levels target before)) (levels target before))
+        gone : (b : Bool) → AreSmall (cond b (without_level cleared.index (levels target before))
+            (levels target before))
         gone true = small-without cleared.index (levels target before) a
         gone false = a
     go _ s a = a
 
-pattern-small : (n : ℕ) (h : History) → AllByRecursion (λ (e : Entry). IsBoundedLevel e.event) h → AreSmall (pattern_levels n h)
+pattern-small : (n : ℕ) (h : History) → AllByRecursion (λ (e : Entry). IsBoundedLevel e.event) h →
+    AreSmall (pattern_levels n h)
 pattern-small n h k = go (pattern_at n h) refl
   where
     go : (x : Option (List ℕ)) → pattern_at n h ≡ x → AreSmall (pattern_levels n h)
@@ -265,13 +315,15 @@ pattern-small n h k = go (pattern_at n h) refl
         let some : pattern_levels n h ≡ levels (LevelTarget.Pattern text) h = rw (e, pattern_levels) refl in
         subst AreSmall (sym some) (levels-small (LevelTarget.Pattern text) h k)
 
-scoped-small : (scope : Scope) (target : List ℕ) (h : History) → AllByRecursion (λ (e : Entry). IsBoundedLevel e.event) h → AreSmall (scoped scope target h)
+scoped-small : (scope : Scope) (target : List ℕ) (h : History) →
+    AllByRecursion (λ (e : Entry). IsBoundedLevel e.event) h → AreSmall (scoped scope target h)
 scoped-small Scope.Nothing target h k = tt
 scoped-small Scope.Name target h k = levels-small (LevelTarget.Name target) h k
 scoped-small (Scope.Pattern n) target h k = pattern-small n h k
 
 -- levels of rising index within its bounds are few
-rising-few : (n : ℕ) (ls : List Level) → n ≤ MOST_LEVELS_OF_TARGET → Above n ls → Rising ls → AreSmall ls → length ls + n ≤ MOST_LEVELS_OF_TARGET
+rising-few : (n : ℕ) (ls : List Level) → n ≤ MOST_LEVELS_OF_TARGET → Above n ls → Rising ls → AreSmall ls →
+    length ls + n ≤ MOST_LEVELS_OF_TARGET
 rising-few n [] le a r s = omega (arith, le)
 rising-few n (l ∷ ls) le a r s =
     let most : l.index ≤ MOST_LEVELS_OF_TARGET = s.0.most in
@@ -282,9 +334,11 @@ rising-few n (l ∷ ls) le a r s =
 planned-small : (h : History) (ls : List Level) → AreSmall ls → AreFewDevices (map (plan_level h) ls)
 planned-small h [] a = tt
 planned-small h (l ∷ ls) a =
-    let same : length (map (λ name. option_map reg_of (current name h)) l.devices) ≡ length l.devices = length-map l.devices _ in
+    let same : length (map (λ name. option_map reg_of (current name h)) l.devices) ≡ length l.devices =
+    length-map l.devices _ in
     let few : length l.devices ≤ MOST_DEVICES_OF_LEVEL = a.0.few in
-    let most : length (map (λ name. option_map reg_of (current name h)) l.devices) ≤ MOST_DEVICES_OF_LEVEL = omega (arith, same, few) in
+    let most : length (map (λ name. option_map reg_of (current name h)) l.devices) ≤ MOST_DEVICES_OF_LEVEL =
+    omega (arith, same, few) in
     (most, planned-small h ls a.1)
 
 module _ (w : Wanted) (h : History) (k : KnowsFew h) where
@@ -293,19 +347,23 @@ module _ (w : Wanted) (h : History) (k : KnowsFew h) where
 
   pub few-levels : length (plan w h).levels ≤ MOST_LEVELS_OF_TARGET
   few-levels =
-      let same : length (map (plan_level h) (scoped w.scope w.target h)) ≡ length (scoped w.scope w.target h) = length-map (scoped w.scope w.target h) (plan_level h) in
+      let same : length (map (plan_level h) (scoped w.scope w.target h)) ≡ length (scoped w.scope w.target h) =
+      length-map (scoped w.scope w.target h) (plan_level h) in
       let above : Above 0 (scoped w.scope w.target h) =
-      each-map (λ (l : Level). IsSmallLevel l.index l.devices) (λ (l : Level). 0 < l.index) (scoped w.scope w.target h) (λ l s. let least : 1 ≤ l.index = s.least in omega (arith, least)) small-here in
+      each-map (λ (l : Level). IsSmallLevel l.index l.devices) (λ (l : Level). 0 < l.index) (scoped w.scope w.target h)
+      (λ l s. let least : 1 ≤ l.index = s.least in omega (arith, least)) small-here in
       let few : length (scoped w.scope w.target h) + 0 ≤ MOST_LEVELS_OF_TARGET =
       rising-few 0 (scoped w.scope w.target h) (omega arith) above (scoped-rising w.scope w.target h) small-here in
-      let most : length (map (plan_level h) (scoped w.scope w.target h)) ≤ MOST_LEVELS_OF_TARGET = omega (arith, same, few) in
+      let most : length (map (plan_level h) (scoped w.scope w.target h)) ≤ MOST_LEVELS_OF_TARGET =
+      omega (arith, same, few) in
       most
 
   pub few-devices : AreFewDevices (plan w h).levels
   few-devices = planned-small h (scoped w.scope w.target h) small-here
 
 -- the plan of a target is small
-module _ (h : History) (m : ℕ) (kind : Kind) (target : List ℕ) (p : Plan) (k : KnowsFew h) (planned : IsPlanOf h m kind target p) where
+module _ (h : History) (m : ℕ) (kind : Kind) (target : List ℕ) (p : Plan) (k : KnowsFew h)
+    (planned : IsPlanOf h m kind target p) where
   abbrev asked : Wanted
   asked = record { kind = kind; target = target; begin = m; scope = p.scope }
 

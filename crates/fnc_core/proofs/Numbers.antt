@@ -17,7 +17,8 @@ devices-most (e ∷ h) = go (is_device e.event) (devices-most h)
     go false k = omega (arith, k)
 
 -- the core after an event whose replies were given: the numbers are those that the event leaves
-pub holds-replied : (m : ℕ) (p q : Parted) (reg req run : ℕ) → GaveReplies m p q → Rests m q → reg ≡ devices p.history → req ≡ asks p.history → run ≡ starts p.history → Holds m q reg req run
+pub holds-replied : (m : ℕ) (p q : Parted) (reg req run : ℕ) → GaveReplies m p q → Rests m q → reg ≡ devices p.history →
+    req ≡ asks p.history → run ≡ starts p.history → Holds m q reg req run
 holds-replied m p q reg req run g r a b c = record {
   rests = r;
   next_reg = a ∙ sym (ap devices g.history ∙ devices-replied m g.replies p.history g.are);

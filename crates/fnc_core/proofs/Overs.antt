@@ -1,7 +1,32 @@
 -- The entry that asks an operation's first request says when its total time is over.
-use Rattle.std.proofs.Common.{ℕ, [], ◌∷◌, ap₂, subst, Bool, true, false, ◌≡◌, ◌≤◌, ◌+◌, ◌==◌, ◌&&◌, refl, ap, sym, ◌∙◌, Option, Some, None, IsTrue, cond, arith}
+use Rattle.std.proofs.Common.{
+  ℕ,
+  [],
+  ◌∷◌,
+  ap₂,
+  subst,
+  Bool,
+  true,
+  false,
+  ◌≡◌,
+  ◌≤◌,
+  ◌+◌,
+  ◌==◌,
+  ◌&&◌,
+  refl,
+  ap,
+  sym,
+  ◌∙◌,
+  Option,
+  Some,
+  None,
+  IsTrue,
+  cond,
+  arith,
+}
 use Rattle.std.proofs.lemmas.Bool.{leb-true}
 use Rattle.std.specs.Prelude.{option_map, option_and_then, nat_le}
+use Rattle.fnc_journal.specs.declared.limits.TheConstants.{DAY, GREATEST_MOMENT}
 use Rattle.fnc_journal.specs.declared.entry.Entry.{Entry}
 use Rattle.fnc_journal.specs.declared.event.Event.{Event}
 use Rattle.fnc_journal.specs.declared.event.Request.{Request}
@@ -32,10 +57,10 @@ told m q before = record {
 
 -- a request came no later than at the greatest moment, and its total is a day at most
 record IsShort (a : Asked) : Type 0 where
-  pub early : a.moment ≤ 1_000_000_000_000_000
-  pub short : a.total ≤ 86_400_000
+  pub early : a.moment ≤ GREATEST_MOMENT
+  pub short : a.total ≤ DAY
 
-fits : (m total : ℕ) → m ≤ 1_000_000_000_000_000 → total ≤ 86_400_000 → capped 64 (m + total) ≡ m + total
+fits : (m total : ℕ) → m ≤ GREATEST_MOMENT → total ≤ DAY → capped 64 (m + total) ≡ m + total
 fits m total a b = grind arith
 
 fourth : (a b c d e : Bool) → (a && b && c && d && e) ≡ true → d ≡ true
@@ -46,21 +71,23 @@ asked-short [] l r a e = cc
 asked-short (e ∷ before) l r a f =
     go e.event (in_order-of e.moment e.event before l.0.ordered) (asked r before) (λ k. asked-short before l.1 r a k) f
   where
-    early : e.moment ≤ 1_000_000_000_000_000
-    early = leb-true e.moment 1_000_000_000_000_000 (and-left _ _ (and-left _ _ l.0.ordered))
+    early : e.moment ≤ GREATEST_MOMENT
+    early = leb-true e.moment GREATEST_MOMENT (and-left _ _ (and-left _ _ l.0.ordered))
 
     go : (event : Event) → IsTrue (in_order event before) → (x : Option Asked) → (x ≡ Some a → IsShort a) →
         or_here x (asked_here r e.moment before event) ≡ Some a → IsShort a
     go event i (Some b) ih g = ih (sym (or_here-some b (asked_here r e.moment before event)) ∙ g)
     go (Event.Ask q) i None ih g = this (r == q.req.0) g
       where
-        short : q.total ≤ 86_400_000
+        short : q.total ≤ DAY
         short =
-            leb-true q.total 86_400_000
-            (fourth (q.req.0 == asks before) (may_ask q.kind) (nat_le 1 q.total) (nat_le q.total 86_400_000) (is_in_place q.scope q.target before) i)
+            leb-true q.total DAY
+            (fourth (q.req.0 == asks before) (may_ask q.kind) (nat_le 1 q.total) (nat_le q.total DAY)
+            (is_in_place q.scope q.target before) i)
 
         this : (b : Bool) → or_here None (cond b (Some (told e.moment q before)) None) ≡ Some a → IsShort a
-        this true k = let same : told e.moment q before ≡ a = cc in subst IsShort same (record { early = early; short = short })
+        this true k = let same : told e.moment q before ≡ a =
+            cc in subst IsShort same (record { early = early; short = short })
         this false k = cc
     go _ i None ih g = cc
 
@@ -81,15 +108,18 @@ over-found h l r o f e same = go (asked r h) refl f same
         leads true g = let same : operation_of r a ≡ o = cc in ap (λ (p : Operation). p.over) same
         leads false g = cc
 
-        here : (event : Event) → Some (said a) ≡ asked_here r e.moment [] event → over_by e.moment event ≡ a.moment + a.total
+        here : (event : Event) → Some (said a) ≡ asked_here r e.moment [] event →
+            over_by e.moment event ≡ a.moment + a.total
         here (Event.Ask q) s = this (r == q.req.0) s
           where
-            this : (b : Bool) → Some (said a) ≡ cond b (Some (told e.moment q [])) None → capped 64 (e.moment + q.total) ≡ a.moment + a.total
+            this : (b : Bool) → Some (said a) ≡ cond b (Some (told e.moment q [])) None →
+                capped 64 (e.moment + q.total) ≡ a.moment + a.total
             this true t =
                 let same : said a ≡ told e.moment q [] = cc in
                 let moment : a.moment ≡ e.moment = ap (λ (b : Asked). b.moment) same in
                 let total : a.total ≡ q.total = ap (λ (b : Asked). b.total) same in
-                ap₂ (λ (m n : ℕ). capped 64 (m + n)) (sym moment) (sym total) ∙ fits a.moment a.total own.early own.short
+                ap₂ (λ (m n : ℕ). capped 64 (m + n)) (sym moment) (sym total)
+                ∙ fits a.moment a.total own.early own.short
             this false t = cc
         here _ s = cc
 

@@ -1,7 +1,37 @@
 -- Time passes between two events: the records and the queue speak of a later moment, and the journal stays.
-use Rattle.std.proofs.Common.{ℕ, List, [], ◌∷◌, Bool, true, false, ◌≡◌, ◌+◌, ◌^◌, ◌≤◌, ◌==◌, ◌||◌, not, refl, ap, ap₂, sym, ◌∙◌, subst, arith, Option, Some, None, is_some, cond, map, length, eqb-true}
+use Rattle.std.proofs.Common.{
+  ℕ,
+  List,
+  [],
+  ◌∷◌,
+  Bool,
+  true,
+  false,
+  ◌≡◌,
+  ◌+◌,
+  ◌≤◌,
+  ◌==◌,
+  ◌||◌,
+  not,
+  refl,
+  ap,
+  ap₂,
+  sym,
+  ◌∙◌,
+  subst,
+  arith,
+  Option,
+  Some,
+  None,
+  is_some,
+  cond,
+  map,
+  length,
+  eqb-true,
+}
 use Rattle.std.specs.Prelude.{option_map, find}
 use Rattle.std.specs.List.{list_any}
+use Rattle.fnc_journal.specs.declared.limits.TheConstants.{GREATEST_MOMENT}
 use Rattle.fnc_journal.specs.History.{History}
 use Rattle.fnc_journal.specs.Slots.{Operation}
 use Rattle.fnc_journal.specs.Operations.{open_operations, is_due, first_due, settled}
@@ -27,7 +57,8 @@ by-then last m le [] a = tt
 by-then last m le (r ∷ rs) a = let at : r.moment ≡ last = a.0 in (omega (arith, le, at), by-then last m le rs a.1)
 
 -- records of the same numbers are of the same operations
-same-listed : (req : ℕ) (rs ss : List KeptOperation) → map (λ r. r.req) ss ≡ map (λ r. r.req) rs → list_any (is_of req) ss ≡ list_any (is_of req) rs
+same-listed : (req : ℕ) (rs ss : List KeptOperation) → map (λ r. r.req) ss ≡ map (λ r. r.req) rs →
+    list_any (is_of req) ss ≡ list_any (is_of req) rs
 same-listed req [] [] e = refl
 same-listed req [] (s ∷ ss) e = cc
 same-listed req (r ∷ rs) [] e = cc
@@ -36,7 +67,8 @@ same-listed req (r ∷ rs) (s ∷ ss) e =
     let rest : map (λ r. r.req) ss ≡ map (λ r. r.req) rs = cc in
     ap₂ (λ n b. (n == req) || b) own (same-listed req rs ss rest)
 
-pub held-same : (items : List Waiting) (rs ss : List KeptOperation) → map (λ r. r.req) ss ≡ map (λ r. r.req) rs → held ss items ≡ held rs items
+pub held-same : (items : List Waiting) (rs ss : List KeptOperation) → map (λ r. r.req) ss ≡ map (λ r. r.req) rs →
+    held ss items ≡ held rs items
 held-same items [] [] e = refl
 held-same items [] (s ∷ ss) e = cc
 held-same items (r ∷ rs) [] e = cc
@@ -46,12 +78,15 @@ held-same items (r ∷ rs) (s ∷ ss) e =
     ap₂ (λ n k. cond (is_waiting n items) (k + 1) k) own (held-same items rs ss rest)
 
 -- no operation has an item that has no record
-pub only-kept : (h : History) (v new : Kept) (q : Queued) → Waits h v q → map (λ r. r.req) new.operations ≡ map (λ r. r.req) v.operations → OnlyThese new.operations q.waiting
+pub only-kept : (h : History) (v new : Kept) (q : Queued) → Waits h v q →
+    map (λ r. r.req) new.operations ≡ map (λ r. r.req) v.operations → OnlyThese new.operations q.waiting
 only-kept h v new q w e req f = w req ∙ wanted-none h req v (sym (same-listed req v.operations new.operations e) ∙ f)
 
 -- a place for each entry that is owed, with other records of the same operations
-pub places-same : (h : History) (v new : Kept) (q : Queued) → HasPlaces h v q → map (λ r. r.req) new.operations ≡ map (λ r. r.req) v.operations → HasPlaces h new q
-places-same h v new q p e = subst (λ n. owed h ≤ q.spare + n + length (alive_runs h)) (sym (held-same q.waiting v.operations new.operations e)) p
+pub places-same : (h : History) (v new : Kept) (q : Queued) → HasPlaces h v q →
+    map (λ r. r.req) new.operations ≡ map (λ r. r.req) v.operations → HasPlaces h new q
+places-same h v new q p e = subst (λ n. owed h ≤ q.spare + n + length (alive_runs h))
+    (sym (held-same q.waiting v.operations new.operations e)) p
 
 -- where nothing is due no reply must follow
 any-found : (p : Operation → Bool) (xs : List Operation) → list_any p xs ≡ is_some (find p xs)
@@ -65,19 +100,23 @@ any-found p (x ∷ xs) = go (p x) (any-found p xs)
 pub unpending : (h : History) (m : ℕ) → settled h m ≡ true → MayContinue h m (pending h) → pending h ≡ None
 unpending h m s c = go (pending h) c
   where
-    due : (x : Option Operation) → not (is_some x) ≡ true → (n : ℕ) → option_map (λ (o : Operation). o.req) x ≡ Some n → ⊥
+    due : (x : Option Operation) → not (is_some x) ≡ true → (n : ℕ) → option_map (λ (o : Operation). o.req) x ≡ Some n →
+        ⊥
     due None e n f = cc
     due (Some o) e n f = cc
 
     go : (x : Option Pending) → MayContinue h m x → x ≡ None
     go None k = refl
-    go (Some p) k = absurd (due (first_due h m) (ap not (sym (any-found (is_due h m) (open_operations h))) ∙ s) p.operation k.operation)
+    go (Some p) k = absurd (due (first_due h m)
+        (ap not (sym (any-found (is_due h m) (open_operations h))) ∙ s) p.operation k.operation)
 
 -- a journal that is settled now was settled at its last entry
-pub settled-since : (h : History) (last : ℕ) → settled h last ≡ true → ((last_moment h == last) || settled h (last_moment h)) ≡ true → settled h (last_moment h) ≡ true
+pub settled-since : (h : History) (last : ℕ) → settled h last ≡ true →
+    ((last_moment h == last) || settled h (last_moment h)) ≡ true → settled h (last_moment h) ≡ true
 settled-since h last s e = go (last_moment h == last) refl e
   where
-    go : (b : Bool) → (last_moment h == last) ≡ b → (b || settled h (last_moment h)) ≡ true → settled h (last_moment h) ≡ true
+    go : (b : Bool) → (last_moment h == last) ≡ b → (b || settled h (last_moment h)) ≡ true →
+        settled h (last_moment h) ≡ true
     go true k f = ap (settled h) (eqb-true (last_moment h) last k) ∙ s
     go false k f = f
 
@@ -86,8 +125,10 @@ or-second true c e = refl
 or-second false c e = e
 
 -- the parts at a later moment
-pub between-later : (last m : ℕ) (old : Parted) (ops : Kept) (queue : Queued) → Rests last old → last ≤ m → m ≤ 10 ^ 15 → StandsFor ops old.history → AreAt m ops.operations →
-    Waits old.history ops queue → queue.alive ≡ old.queue.alive → HasPlaces old.history ops queue → Between m (record { history = old.history; limit = old.limit; ops = ops; queue = queue })
+pub between-later : (last m : ℕ) (old : Parted) (ops : Kept) (queue : Queued) → Rests last old → last ≤ m →
+    m ≤ GREATEST_MOMENT → StandsFor ops old.history → AreAt m ops.operations →
+    Waits old.history ops queue → queue.alive ≡ old.queue.alive → HasPlaces old.history ops queue →
+    Between m (record { history = old.history; limit = old.limit; ops = ops; queue = queue })
 between-later last m old ops queue r le early stands at waits alive places = record {
   lawful = r.between.lawful;
   calm = r.between.calm;
@@ -103,5 +144,6 @@ between-later last m old ops queue r le early stands at waits alive places = rec
   has_places = places;
   room = r.between.room;
   continues = subst (MayContinue old.history m) (sym (unpending old.history last r.settled_now r.between.continues)) tt;
-  settled_then = or-second (last_moment old.history == m) _ (settled-since old.history last r.settled_now r.between.settled_then);
+  settled_then = or-second (last_moment old.history == m) _
+      (settled-since old.history last r.settled_now r.between.settled_then);
 }

@@ -8,10 +8,13 @@ use Rattle.fnc_core.specs.Between.{Between, Rests, Stays}
 use Rattle.fnc_core.specs.Parted.{Parted}
 use Rattle.fnc_core.specs.Wanted.{HasPlaces, held}
 
-places-reserved : (n : ℕ) (p : Parted) → HasPlaces p.history p.ops p.queue → HasPlaces p.history p.ops (reserved n p.queue)
+places-reserved : (n : ℕ) (p : Parted) → HasPlaces p.history p.ops p.queue →
+    HasPlaces p.history p.ops (reserved n p.queue)
 places-reserved n p h =
-    let before : owed p.history ≤ p.queue.spare + held p.ops.operations p.queue.waiting + length (alive_runs p.history) = h in
-    let now : owed p.history ≤ max p.queue.spare n + held p.ops.operations p.queue.waiting + length (alive_runs p.history) = omega (arith, before) in
+    let before : owed p.history ≤ p.queue.spare + held p.ops.operations p.queue.waiting + length
+    (alive_runs p.history) = h in
+    let now : owed p.history ≤ max p.queue.spare n + held p.ops.operations p.queue.waiting + length
+    (alive_runs p.history) = omega (arith, before) in
     now
 
 between-reserved : (m n : ℕ) (p : Parted) → Between m p → Between m (record p { queue = reserved n p.queue })
@@ -33,7 +36,8 @@ between-reserved m n p b = record {
   settled_then = b.settled_then;
 }
 
-pub stays-reserved : (m n : ℕ) (p : Parted) (q : Queued) → Rests m p → q ≡ reserved n p.queue → Stays m p (record p { queue = q })
+pub stays-reserved : (m n : ℕ) (p : Parted) (q : Queued) → Rests m p → q ≡ reserved n p.queue →
+    Stays m p (record p { queue = q })
 stays-reserved m n p q r e = subst (λ (u : Queued). Stays m p (record p { queue = u })) (sym e) (record {
   rests = record { between = between-reserved m n p r.between; settled_now = r.settled_now };
   history = refl;
@@ -49,7 +53,8 @@ stays-either m n p q (Err e) rests taken kept =
     subst (λ (u : Queued). Stays m p (record p { queue = u })) (sym kept)
     (record { rests = rests; history = refl; limit = refl; ops = refl })
 
-pub places-either : {T E : Type 0} (n : ℕ) (old q : Queued) (r : Result T E) → OnOk r (q ≡ reserved n old) → OnOk r (n ≤ q.spare)
+pub places-either : {T E : Type 0} (n : ℕ) (old q : Queued) (r : Result T E) → OnOk r (q ≡ reserved n old) →
+    OnOk r (n ≤ q.spare)
 places-either n old q (Ok x) taken =
     let spare : q.spare ≡ max old.spare n = ap (λ (u : Queued). u.spare) taken in
     omega (arith, spare)

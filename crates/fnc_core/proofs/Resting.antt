@@ -21,5 +21,10 @@ module _ (m : ℕ) (p : Parted) (r : Rests m p) where
   rests-come = record { most = r.between.early; later = r.between.came }
 
   -- the next input, where it is in order
-  pub lawful-entered : (event : Event) → is_input event ≡ true → in_order event p.history ≡ true → exit_of event p.history ≡ true → leads event m p.history ≡ true → Lawful (entry m event ∷ p.history)
-  lawful-entered event i o x l = (lawful-input p.history m event rests-come i o x l r.settled_now rests-last rests-pending, r.between.lawful)
+  pub lawful-entered : (event : Event) → is_input event ≡ true → in_order event p.history ≡ true →
+      exit_of event p.history ≡ true → leads event m p.history ≡ true → Lawful (entry m event ∷ p.history)
+  lawful-entered event i o x l = (
+    lawful-input p.history m event rests-come i o x l r.settled_now rests-last
+        rests-pending,
+    r.between.lawful,
+  )

@@ -1,5 +1,26 @@
 -- What holds of the core between two calls says that its journal is sound.
-use Rattle.std.proofs.Common.{ℕ, List, [], ◌∷◌, Bool, true, false, ◌≡◌, ◌+◌, ◌*◌, ◌==◌, ◌||◌, refl, ap, sym, ◌∙◌, subst, arith, length, eqb-true}
+use Rattle.std.proofs.Common.{
+  ℕ,
+  List,
+  [],
+  ◌∷◌,
+  Bool,
+  true,
+  false,
+  ◌≡◌,
+  ◌+◌,
+  ◌*◌,
+  ◌==◌,
+  ◌||◌,
+  refl,
+  ap,
+  sym,
+  ◌∙◌,
+  subst,
+  arith,
+  length,
+  eqb-true,
+}
 use Rattle.std.specs.Prelude.{IfSome, Option, Some, None}
 use Rattle.std.specs.List.{AllByRecursion}
 use Rattle.fnc_journal.specs.declared.entry.Run.{Run}
@@ -27,8 +48,10 @@ value p last = record { history = p.history; last = last; limit = p.limit }
 pub settled-then : (m : ℕ) (p : Parted) → Rests m p → settled p.history (last_moment p.history) ≡ true
 settled-then m p r = go (last_moment p.history == m) refl r.between.settled_then
   where
-    go : (b : Bool) → (last_moment p.history == m) ≡ b → (b || settled p.history (last_moment p.history)) ≡ true → settled p.history (last_moment p.history) ≡ true
-    go true e k = let same : last_moment p.history ≡ m = eqb-true (last_moment p.history) m e in subst (λ n. settled p.history n ≡ true) (sym same) r.settled_now
+    go : (b : Bool) → (last_moment p.history == m) ≡ b → (b || settled p.history (last_moment p.history)) ≡ true →
+        settled p.history (last_moment p.history) ≡ true
+    go true e k = let same : last_moment p.history ≡ m =
+        eqb-true (last_moment p.history) m e in subst (λ n. settled p.history n ≡ true) (sym same) r.settled_now
     go false e k = k
 
 pub rests-sound : (m : ℕ) (p : Parted) → Rests m p → Sound (value p m)
@@ -51,7 +74,8 @@ sound_seen v m p seen r = subst Sound seen (rests-sound m p r)
 pub knows-few : (v : Cored) (p : Parted) (m : ℕ) → value p m ≡ v → Rests m p → KnowsFew v.history
 knows-few v p m seen r = (sound_seen v m p seen r).few
 
-none-owed : (h : History) (os : List Operation) → AllByRecursion (λ (p : Operation). is_open p.req h ≡ true) os → owed_by_all h os ≡ 0 → os ≡ []
+none-owed : (h : History) (os : List Operation) → AllByRecursion (λ (p : Operation). is_open p.req h ≡ true) os →
+    owed_by_all h os ≡ 0 → os ≡ []
 none-owed h [] a e = refl
 none-owed h (o ∷ os) a e = go (unanswered o.req h) refl a.0
   where
@@ -70,14 +94,18 @@ nothing-long (b ∷ bs) e = absurd (omega (arith, e))
 -- nothing is owed exactly where nothing is open and no run is alive
 pub idle-owes : (h : History) → (owed h ≡ 0) → (open_operations h ≡ []) × (alive_runs h ≡ [])
 idle-owes h e =
-    let sum : length (alive_runs h) + owed_by_all h (open_operations h) ≡ 0 = e in
-    (none-owed h (open_operations h) (each-open h) (omega (arith, sum)), nothing-long (alive_runs h) (omega (arith, sum)))
+    let sum : length (alive_runs h) + owed_by_all h (open_operations h) ≡ 0 = e in (
+      none-owed h (open_operations h) (each-open h) (omega (arith, sum)),
+      nothing-long (alive_runs h)
+          (omega (arith, sum)),
+    )
 
 pub owes-idle : (h : History) → open_operations h ≡ [] → alive_runs h ≡ [] → owed h ≡ 0
 owes-idle h e f = rw (f, e) refl
 
 -- what the parts tell of the start that comes next is what contracts say of it
-pub tells-first : (m : ℕ) (p : Parted) (run : Run) (s : Started) → run.0 ≡ starts p.history → IsNextStart m p run s → IsFirstStart p.history m s
+pub tells-first : (m : ℕ) (p : Parted) (run : Run) (s : Started) → run.0 ≡ starts p.history → IsNextStart m p run s →
+    IsFirstStart p.history m s
 tells-first m p run s e n = record {
   startable = n.startable;
   is_first = n.is_first;
@@ -90,6 +118,7 @@ tells-first m p run s e n = record {
   limit = n.limit;
 }
 
-pub tells-start : (m : ℕ) (p : Parted) (run : Run) (x : Option Started) → run.0 ≡ starts p.history → IfSome x (IsNextStart m p run) → IfSome x (IsFirstStart p.history m)
+pub tells-start : (m : ℕ) (p : Parted) (run : Run) (x : Option Started) → run.0 ≡ starts p.history →
+    IfSome x (IsNextStart m p run) → IfSome x (IsFirstStart p.history m)
 tells-start m p run None e n = n
 tells-start m p run (Some s) e n = tells-first m p run s e n

@@ -19,6 +19,7 @@ use Rattle.std.specs.Prelude.{
 }
 use Rattle.fnc_journal.specs.declared.entry.Entry.{Entry}
 use Rattle.fnc_journal.specs.declared.event.Event.{Event}
+use Rattle.fnc_journal.specs.declared.entry.Kind.{Kind}
 use Rattle.fnc_journal.specs.declared.entry.Req.{Req}
 use Rattle.fnc_journal.specs.declared.outcome.Full.{Full}
 use Rattle.fnc_journal.specs.declared.plan.Plan.{Plan}
@@ -86,6 +87,10 @@ pub record Enters (old new : Cored) (m : ℕ) (event : Event) (need : ℕ) : Typ
   pub advances : Advances old advanced m
   pub has_room : HasRoom advanced need
   pub follows : Follows advanced new event
+
+-- the operation that a request for an action on a target joins at the last moment, None where it begins its own
+abbrev pub joined_in : Cored → Kind → List ℕ → Option ℕ
+joined_in v kind target = option_map (λ o. o.req) (joined v.history v.last kind target)
 
 -- the request that a request joins in a journal at a moment, or itself
 abbrev pub lead_in : History → ℕ → Ask → Req → Req

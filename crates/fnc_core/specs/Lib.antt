@@ -6,4 +6,5 @@ pub mod Between
 pub mod Cored
 pub mod Holds
 pub mod Limits
+pub mod Told
 pub mod Calls

@@ -15,7 +15,8 @@ over_by m _ = m
 
 -- how long an action of a registration may take, 0 where there is no such registration
 abbrev pub time_of : ℕ → Kind → History → ℕ
-time_of reg kind h = unwrap_or (option_map (λ (r : Registration). (allowed r.definition kind).time) (registration reg h)) 0
+time_of reg kind h =
+    unwrap_or (option_map (λ (r : Registration). (allowed r.definition kind).time) (registration reg h)) 0
 
 -- the limit that a slot has, or where it has none the one that it gets by a start at a moment
 abbrev pub limit_at : ℕ → ℕ → ℕ → Option ℕ → ℕ

@@ -1,5 +1,20 @@
 -- What the queue holds: for each open operation the try that it waits for, and the lanes of the runs that are alive.
-use Rattle.std.specs.Prelude.{ℕ, List, [], ◌∷◌, ◌≡◌, ◌≤◌, ◌+◌, if◌then◌else◌, length, Option, None, false, option_map, option_and_then}
+use Rattle.std.specs.Prelude.{
+  ℕ,
+  List,
+  [],
+  ◌∷◌,
+  ◌≡◌,
+  ◌≤◌,
+  ◌+◌,
+  if◌then◌else◌,
+  length,
+  Option,
+  None,
+  false,
+  option_map,
+  option_and_then,
+}
 use Rattle.std.specs.List.{list_any}
 use Rattle.fnc_journal.specs.History.{History}
 use Rattle.fnc_journal.specs.Found.{registration}
@@ -21,7 +36,12 @@ cap_of reg h = option_and_then (λ r. r.definition.cap) (registration reg h)
 
 -- the item of an operation's try
 abbrev pub item_for : History → ℕ → Standing → Waiting
-item_for h req s = record { req = record { 0 = req }; lane = record { 0 = lane s.reg.0 h }; ready = s.ready; cap = cap_of s.reg.0 h }
+item_for h req s = record {
+  req = record { 0 = req };
+  lane = record { 0 = lane s.reg.0 h };
+  ready = s.ready;
+  cap = cap_of s.reg.0 h;
+}
 
 -- the item of the try that an operation waits for
 abbrev pub wanted : History → ℕ → Kept → Option Waiting

@@ -1,6 +1,6 @@
 // What enters the core at its last moment, where there is room for it.
 
-ghost use Rattle.std.specs.Prelude.{◌≡◌, ◌≤◌, true, false, option_map, Some, None, OnOk, OnErr, IfErr};
+ghost use Rattle.std.specs.Prelude.{◌≡◌, ◌≤◌, true, false, Some, None, OnOk, OnErr, IfErr};
 ghost use Rattle.fnc_journal.specs.declared.event.Event.{Event};
 ghost use Rattle.fnc_journal.specs.Found.{is_device};
 ghost use Rattle.fnc_journal.specs.Lawful.{in_order, may_ask};
@@ -9,7 +9,7 @@ ghost use Rattle.fnc_core.specs.Known.{LeavesFewNames};
 ghost use Rattle.fnc_core.specs.Between.{IsBoundedEvent, IsPlanOf, is_quiet, need_of, request_of};
 ghost use Rattle.fnc_journal.specs.Levels.{is_in_place};
 ghost use Rattle.fnc_core.specs.Cored.{Follows, HasRoom, IsRefusal, IsAskRefusal};
-ghost use Rattle.fnc_core.specs.Cored.{ask_event, ask_need, event_of, lead_in, next_of};
+ghost use Rattle.fnc_core.specs.Cored.{ask_event, ask_need, event_of, joined_in, lead_in, next_of};
 
 use crate::change::{Ask, Change};
 use crate::machine::Core;
@@ -64,8 +64,9 @@ impl Core {
     #[tactic(auto, using(crate::proofs::Sounds::sound_seen))]
     fn join(&mut self, alloc: Global, lead: Req, ask: Ask, scope: Scope) -> Result<(), AskRefusal>
         requires ordered { in_order (Event.Ask (request_of (next_of self.old) lead ask scope)) self.old.history ≡ true }
-        requires leads { option_map (λ o. o.req) (joined self.old.history self.old.last ask.kind ask.target) ≡ Some lead.0 }
-        ensures ok { OnOk result (Follows self.old self.new (Event.Ask (request_of (next_of self.old) lead ask scope))) }
+        requires leads { joined_in self.old ask.kind ask.target ≡ Some lead.0 }
+        ensures ok { OnOk result
+            (Follows self.old self.new (Event.Ask (request_of (next_of self.old) lead ask scope))) }
         ensures room { OnOk result (HasRoom self.old 2) }
         ensures refusal { IfErr result (IsRefusal self.new 2) }
         ensures err { OnErr result (self.new ≡ self.old) }
@@ -94,7 +95,8 @@ impl Core {
         requires ordered { in_order (ask_event (next_of self.old) (next_of self.old) ask plan) self.old.history ≡ true }
         requires leads { joined self.old.history self.old.last ask.kind ask.target ≡ None }
         requires planned { IsPlanOf self.old.history self.old.last ask.kind ask.target plan }
-        ensures ok { OnOk result (Follows self.old self.new (ask_event (next_of self.old) (next_of self.old) ask plan)) }
+        ensures ok { OnOk result
+            (Follows self.old self.new (ask_event (next_of self.old) (next_of self.old) ask plan)) }
         ensures room { OnOk result
             (HasRoom self.old (need_of self.old.history self.old.last (next_of self.old) ask plan)) }
         ensures refusal { IfErr result

@@ -6,11 +6,10 @@ ghost use Rattle.fnc_journal.specs.declared.event.Event.{Event};
 ghost use Rattle.fnc_journal.specs.Found.{asks};
 ghost use Rattle.fnc_journal.specs.Lawful.{in_order, may_ask};
 ghost use Rattle.fnc_journal.specs.Levels.{is_in_place};
-ghost use Rattle.fnc_journal.specs.Operations.{joined};
 ghost use Rattle.fnc_journal.specs.Owed.{owed};
 ghost use Rattle.fnc_journal.specs.Startable.{first, is_alive};
 ghost use Rattle.fnc_core.specs.Between.{IsBoundedEvent, IsPlanOf};
-ghost use Rattle.fnc_core.specs.Cored.{Sound, HasRoom, IsFull, IsIdle, IsAskRefusal, IsStart, event_of};
+ghost use Rattle.fnc_core.specs.Cored.{Sound, HasRoom, IsFull, IsIdle, IsAskRefusal, IsStart, event_of, joined_in};
 ghost use Rattle.fnc_core.specs.Cored.{Advances, Enters, Asks, Starts};
 ghost use Rattle.fnc_core.specs.Known.{LeavesFewNames};
 
@@ -102,7 +101,7 @@ impl Core {
     /// The operation that a request for a target and an action would join at the last moment. None where it would
     /// begin its own.
     pub fn joinable(&self, target: &str, kind: Kind) -> Option<Req>
-        ensures { option_map (λ r. r.0) result ≡ option_map (λ o. o.req) (joined self.now.history self.now.last kind target.now) }
+        ensures { option_map (λ r. r.0) result ≡ joined_in self.now kind target.now }
     {
         self.parts.ops.joinable(target, kind)
     }

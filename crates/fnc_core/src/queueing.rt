@@ -13,10 +13,13 @@ use fnc_queue::Queue;
 
 /// The queue's item of an operation becomes that of the try that it waits for, none where it waits for none.
 pub(crate) fn requeue(journal: &Journal, ops: &Ops, queue: &mut Queue, operation: Req)
-    requires room { is_some (Wanted.wanted journal.now.history operation.0 ops.now) ≡ true → is_waiting operation.0 queue.old.waiting ≡ false → 0 < queue.old.spare }
-    ensures changes { Changes operation.0 (Wanted.wanted journal.now.history operation.0 ops.now) queue.old.waiting queue.new.waiting }
+    requires room { is_some (Wanted.wanted journal.now.history operation.0 ops.now) ≡ true →
+        is_waiting operation.0 queue.old.waiting ≡ false → 0 < queue.old.spare }
+    ensures changes { Changes operation.0 (Wanted.wanted journal.now.history operation.0 ops.now)
+        queue.old.waiting queue.new.waiting }
     ensures alive { queue.new.alive ≡ queue.old.alive }
-    ensures places { queue.new.spare + Wanted.one_if_held operation.0 queue.new.waiting ≡ queue.old.spare + Wanted.one_if_held operation.0 queue.old.waiting }
+    ensures places { queue.new.spare + Wanted.one_if_held operation.0 queue.new.waiting
+        ≡ queue.old.spare + Wanted.one_if_held operation.0 queue.old.waiting }
 {
     queue.withdraw(operation);
     if let Some(item) = wanted(journal, ops, operation) {

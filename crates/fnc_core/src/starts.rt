@@ -1,14 +1,43 @@
 // The start that comes next.
 
-ghost use Rattle.std.specs.Prelude.{◌≡◌, ◌↔◌, None, IsNone, IfNone, IfSome};
+ghost use Rattle.std.specs.Prelude.{◌≡◌, ◌≤◌, ◌↔◌, None, IsNone, IfNone, IfSome};
 ghost use Rattle.fnc_journal.specs.Found.{starts};
+ghost use Rattle.fnc_journal.specs.Lawful.{Lawful};
 ghost use Rattle.fnc_journal.specs.Startable.{first};
+ghost use Rattle.fnc_ops.specs.OpsRecords.{waiting};
+ghost use Rattle.fnc_ops.specs.SlotFacts.{BothOr};
+ghost use Rattle.fnc_ops.specs.Stands.{AreBounded};
 ghost use Rattle.fnc_core.specs.Between.{Rests, StartsNext, IsNextStart};
+ghost use Rattle.fnc_core.specs.Told.{IsTold};
 
 use crate::change::Started;
 use crate::limits::limit_of;
 use crate::parts::Parts;
-use fnc_journal::{Entry, Event, Run};
+use fnc_journal::limits::GREATEST_MOMENT;
+use fnc_journal::{Entry, Event, Journal, Req, Run};
+use fnc_ops::Ops;
+
+/// What is told of the try that an operation waits for, with the number that its run would have. None where it
+/// waits for none.
+fn told(journal: &Journal, ops: &Ops, req: Req, run: Run, moment: u64) -> Option<Started>
+    requires lawful { Lawful journal.now.history }
+    requires bounded { AreBounded journal.now.history }
+    requires early { moment ≤ GREATEST_MOMENT }
+    ensures { BothOr (IsTold journal.now.history moment run req) (waiting req.0 ops.now.operations) result }
+{
+    match ops.waiting(req) {
+        None => None,
+        Some(standing) => Some(Started {
+            run,
+            req,
+            slot: standing.slot,
+            reg: standing.reg,
+            kind: standing.kind,
+            attempt: standing.attempt,
+            limit: limit_of(journal, req, standing, moment),
+        }),
+    }
+}
 
 impl Parts {
     /// The start that may be made first at a moment, with the number that its run would have. None exactly where
@@ -20,16 +49,7 @@ impl Parts {
         ensures some { IfSome result (IsNextStart moment self.now run) }
     {
         let item = self.queue.first(moment)?;
-        let standing = self.ops.waiting(item.req)?;
-        Some(Started {
-            run,
-            req: item.req,
-            slot: standing.slot,
-            reg: standing.reg,
-            kind: standing.kind,
-            attempt: standing.attempt,
-            limit: limit_of(&self.journal, item.req, standing, moment),
-        })
+        told(&self.journal, &self.ops, item.req, run, moment)
     }
 
     /// Makes that start.
@@ -42,8 +62,8 @@ impl Parts {
         ensures starts { IfSome result (λ s. StartsNext moment s self.old self.new) }
         ensures rests { Rests moment self.new }
     {
-        let started = self.first_start(moment, run)?;
-        self.queue.take_first(moment);
+        let item = self.queue.take_first(moment)?;
+        let started = told(&self.journal, &self.ops, item.req, run, moment)?;
         let start = started.start();
         self.ops.started(&self.journal, &start, moment);
         self.journal.push(Entry {

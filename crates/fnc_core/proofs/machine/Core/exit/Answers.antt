@@ -14,15 +14,19 @@ returns-in_default-clause-alive c =
     ap (λ (v : Cored). v.history) c.self.view_is ∙ c.advance.ensures.history in
     let same : is_alive c.args.run.0 c.self.inside.parts.history ≡ is_alive c.args.run.0 c.args.self.now.history =
     ap (is_alive c.args.run.0) now
-    ∙ is_alive-replied c.args.moment c.advance.ensures.advance c.args.self.now.history c.advance.ensures.at_once c.args.run.0 in
-    let no : is_alive c.args.run.0 c.self.inside.parts.history ≡ false = sym c.alive_start.ensures.alive ∙ ap is_some c.in_default.is in
+    ∙ is_alive-replied c.args.moment c.advance.ensures.advance c.args.self.now.history c.advance.ensures.at_once
+    c.args.run.0 in
+    let no : is_alive c.args.run.0 c.self.inside.parts.history ≡ false = sym c.alive_start.ensures.alive
+    ∙ ap is_some c.in_default.is in
     (λ e. cc, λ e. sym no ∙ same ∙ e)
 
 pub invariant_of-self : goal.invariant_of-self
 invariant_of-self c =
     let now : c.self.inside.last ≡ c.args.moment = ap (λ (v : Cored). v.last) c.self.view_is ∙ c.advance.ensures.last in
-    subst (λ n. Holds n c.give_replies.new.self c.self.inside.next_reg c.self.inside.next_req c.self.inside.next_run) (sym now)
-    (holds-replied c.args.moment c.end_run.new.self c.give_replies.new.self _ _ _ c.give_replies.ensures.gave c.give_replies.ensures.rests
+    subst (λ n. Holds n c.give_replies.new.self c.self.inside.next_reg c.self.inside.next_req c.self.inside.next_run)
+    (sym now)
+    (holds-replied c.args.moment c.end_run.new.self c.give_replies.new.self _ _ _ c.give_replies.ensures.gave
+    c.give_replies.ensures.rests
     (c.self.invariant.next_reg ∙ sym (ap devices c.end_run.ensures.adds.history))
     (c.self.invariant.next_req ∙ sym (ap asks c.end_run.ensures.adds.history))
     (c.self.invariant.next_run ∙ sym (ap starts c.end_run.ensures.adds.history)))
@@ -33,6 +37,8 @@ returns-clause-alive c =
     ap (λ (v : Cored). v.history) c.self.view_is ∙ c.advance.ensures.history in
     let same : is_alive c.args.run.0 c.self.inside.parts.history ≡ is_alive c.args.run.0 c.args.self.now.history =
     ap (is_alive c.args.run.0) now
-    ∙ is_alive-replied c.args.moment c.advance.ensures.advance c.args.self.now.history c.advance.ensures.at_once c.args.run.0 in
-    let yes : is_alive c.args.run.0 c.self.inside.parts.history ≡ true = sym c.alive_start.ensures.alive ∙ ap is_some c.in-Some.is in
+    ∙ is_alive-replied c.args.moment c.advance.ensures.advance c.args.self.now.history c.advance.ensures.at_once
+    c.args.run.0 in
+    let yes : is_alive c.args.run.0 c.self.inside.parts.history ≡ true = sym c.alive_start.ensures.alive
+    ∙ ap is_some c.in-Some.is in
     (λ e. sym same ∙ yes, λ e. refl)

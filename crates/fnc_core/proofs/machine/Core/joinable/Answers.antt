@@ -12,7 +12,10 @@ use Rattle.fnc_core.proofs.machine.Core.joinable.Goals as goal
 pub returns : goal.returns
 returns c =
     let b = c.self.invariant.rests.between in
-    subst (λ (v : Cored). option_map (λ (r : Req). r.0) c.joinable.result ≡ option_map (λ (o : Operation). o.req) (joined v.history v.last c.args.kind c.args.target.now)) c.self.view_is
+    subst (λ (v : Cored). option_map (λ (r : Req). r.0) c.joinable.result ≡ option_map (λ (o : Operation). o.req)
+    (joined v.history v.last c.args.kind c.args.target.now)) c.self.view_is
     (c.joinable.ensures c.self.inside.parts.history c.self.inside.last
-    (subst (λ (p : Parted). AreAt c.self.inside.last p.ops.operations) (sym (ap (λ i. i.parts) c.self-inside.view_is)) b.at)
-    (subst (λ (p : Parted). StandsFor p.ops c.self.inside.parts.history) (sym (ap (λ i. i.parts) c.self-inside.view_is)) b.stands))
+    (subst (λ (p : Parted). AreAt c.self.inside.last p.ops.operations)
+    (sym (ap (λ i. i.parts) c.self-inside.view_is)) b.at)
+    (subst (λ (p : Parted). StandsFor p.ops c.self.inside.parts.history)
+    (sym (ap (λ i. i.parts) c.self-inside.view_is)) b.stands))

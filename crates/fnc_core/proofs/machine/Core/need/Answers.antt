@@ -10,23 +10,27 @@ use Rattle.fnc_core.proofs.Sounds.{knows-few}
 use Rattle.fnc_core.proofs.machine.Core.need.Goals as goal
 
 pub allowed_tries-requires-clause-bounded : goal.allowed_tries-requires-clause-bounded
-allowed_tries-requires-clause-bounded c = subst (λ (p : Parted). AreBounded p.history) (sym (ap (λ i. i.parts) c.self-inside.view_is)) c.self.invariant.rests.between.bounded
+allowed_tries-requires-clause-bounded c = subst (λ (p : Parted). AreBounded p.history)
+    (sym (ap (λ i. i.parts) c.self-inside.view_is)) c.self.invariant.rests.between.bounded
 
 pub allowed_tries-requires-clause-few_candidates : goal.allowed_tries-requires-clause-few_candidates
 allowed_tries-requires-clause-few_candidates c =
-    planned-candidates c.args.self.now.history c.args.self.now.last c.args.ask.now.kind c.args.ask.now.target c.args.plan.now
+    planned-candidates c.args.self.now.history c.args.self.now.last c.args.ask.now.kind c.args.ask.now.target
+    c.args.plan.now
     (knows-few c.args.self.now c.self.inside.parts c.self.inside.last c.self.view_is c.self.invariant.rests)
     c.requires.planned
 
 pub allowed_tries-requires-clause-few_levels : goal.allowed_tries-requires-clause-few_levels
 allowed_tries-requires-clause-few_levels c =
-    planned-levels c.args.self.now.history c.args.self.now.last c.args.ask.now.kind c.args.ask.now.target c.args.plan.now
+    planned-levels c.args.self.now.history c.args.self.now.last c.args.ask.now.kind c.args.ask.now.target
+    c.args.plan.now
     (knows-few c.args.self.now c.self.inside.parts c.self.inside.last c.self.view_is c.self.invariant.rests)
     c.requires.planned
 
 pub allowed_tries-requires-clause-few_devices : goal.allowed_tries-requires-clause-few_devices
 allowed_tries-requires-clause-few_devices c =
-    planned-devices c.args.self.now.history c.args.self.now.last c.args.ask.now.kind c.args.ask.now.target c.args.plan.now
+    planned-devices c.args.self.now.history c.args.self.now.last c.args.ask.now.kind c.args.ask.now.target
+    c.args.plan.now
     (knows-few c.args.self.now c.self.inside.parts c.self.inside.last c.self.view_is c.self.invariant.rests)
     c.requires.planned
 
@@ -42,5 +46,7 @@ returns c =
       scope = c.args.plan.now.scope;
       before = c.self.inside.parts.history;
     } in
-    subst (λ (v : Cored). 2 + 2 * c.allowed_tries.result ≡ need_of v.history v.last (next_of c.args.self.now) c.args.ask.now c.args.plan.now) c.self.view_is
-    (ap (λ n. 2 + 2 * n) (c.allowed_tries.ensures.tries (next_of c.args.self.now).0 asked refl (sym (ap (λ i. i.parts.history) c.self-inside.view_is))))
+    subst (λ (v : Cored). 2 + 2 * c.allowed_tries.result ≡ need_of v.history v.last
+    (next_of c.args.self.now) c.args.ask.now c.args.plan.now) c.self.view_is
+    (ap (λ n. 2 + 2 * n) (c.allowed_tries.ensures.tries (next_of c.args.self.now).0 asked refl
+    (sym (ap (λ i. i.parts.history) c.self-inside.view_is))))

@@ -19,7 +19,8 @@ enter_change-requires-clause-ordered c =
     let same : event_of c.advance.new.self.history c.args.change ≡ event_of c.args.self.now.history c.args.change =
     same-event c.advance.new.self.history c.args.self.now.history c.args.change count in
     ap₂ in_order same c.advance.ensures.history
-    ∙ in_order-replied c.args.moment c.advance.ensures.advance c.args.self.now.history c.advance.ensures.at_once (event_of c.args.self.now.history c.args.change)
+    ∙ in_order-replied c.args.moment c.advance.ensures.advance c.args.self.now.history c.advance.ensures.at_once
+    (event_of c.args.self.now.history c.args.change)
     ∙ c.requires.ordered
 
 pub enter_change-requires-clause-few_names : goal.enter_change-requires-clause-few_names
@@ -29,10 +30,13 @@ enter_change-requires-clause-few_names c =
     ∙ devices-replied c.args.moment c.advance.ensures.advance c.args.self.now.history c.advance.ensures.at_once in
     let same : event_of c.advance.new.self.history c.args.change ≡ event_of c.args.self.now.history c.args.change =
     same-event c.advance.new.self.history c.args.self.now.history c.args.change count in
-    subst (λ n. LeavesFewNames n (event_of c.advance.new.self.history c.args.change) c.advance.new.self.history) (sym c.advance.ensures.last)
+    subst (λ n. LeavesFewNames n (event_of c.advance.new.self.history c.args.change) c.advance.new.self.history)
+    (sym c.advance.ensures.last)
     (subst (λ (e : Event). LeavesFewNames c.args.moment e c.advance.new.self.history) (sym same)
-    (subst (λ (h : History). LeavesFewNames c.args.moment (event_of c.args.self.now.history c.args.change) h) (sym c.advance.ensures.history)
-    (leaves-replied c.args.moment c.args.moment (event_of c.args.self.now.history c.args.change) c.advance.ensures.advance
+    (subst (λ (h : History). LeavesFewNames c.args.moment (event_of c.args.self.now.history c.args.change) h)
+    (sym c.advance.ensures.history)
+    (leaves-replied c.args.moment c.args.moment
+    (event_of c.args.self.now.history c.args.change) c.advance.ensures.advance
     c.args.self.now.history c.advance.ensures.at_once c.requires.few_names)))
 
 pub returns-clause-ok : goal.returns-clause-ok
@@ -44,4 +48,5 @@ returns-clause-ok c =
     same-event c.advance.new.self.history c.args.self.now.history c.args.change count in
     subst (λ (e : Event). Enters c.args.self.now c.enter_change.new.self c.args.moment e 1) same
     (follows-enters c.args.self.now c.advance.new.self c.enter_change.new.self c.args.moment
-    (event_of c.advance.new.self.history c.args.change) 1 c.advance.ensures c.in_ok-room.ensures.ok c.enter_change.ensures)
+    (event_of c.advance.new.self.history c.args.change) 1 c.advance.ensures c.in_ok-room.ensures.ok
+    c.enter_change.ensures)

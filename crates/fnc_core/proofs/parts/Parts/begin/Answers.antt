@@ -25,17 +25,20 @@ begin-requires-clause-bounded c =
 
 pub begin-requires-clause-few_candidates : goal.begin-requires-clause-few_candidates
 begin-requires-clause-few_candidates c =
-    planned-candidates c.args.self.now.history c.args.moment c.args.ask.kind c.args.ask.target c.args.plan c.requires.rests.between.few
+    planned-candidates c.args.self.now.history c.args.moment c.args.ask.kind c.args.ask.target c.args.plan
+    c.requires.rests.between.few
     c.requires.planned
 
 pub begin-requires-clause-few_levels : goal.begin-requires-clause-few_levels
 begin-requires-clause-few_levels c =
-    planned-levels c.args.self.now.history c.args.moment c.args.ask.kind c.args.ask.target c.args.plan c.requires.rests.between.few
+    planned-levels c.args.self.now.history c.args.moment c.args.ask.kind c.args.ask.target c.args.plan
+    c.requires.rests.between.few
     c.requires.planned
 
 pub begin-requires-clause-few_devices : goal.begin-requires-clause-few_devices
 begin-requires-clause-few_devices c =
-    planned-devices c.args.self.now.history c.args.moment c.args.ask.kind c.args.ask.target c.args.plan c.requires.rests.between.few
+    planned-devices c.args.self.now.history c.args.moment c.args.ask.kind c.args.ask.target c.args.plan
+    c.requires.rests.between.few
     c.requires.planned
 
 pub returns-clause-between : goal.returns-clause-between
@@ -55,25 +58,35 @@ returns-clause-between c =
     let r : Begun = operation_asked c.args.moment c.args.req c.args.ask in
     let event : Event = Event.Ask (request_of c.args.req c.args.req c.args.ask c.args.plan.scope) in
     let own : c.in_ok-operation.operation ≡ r = c.in_ok-operation.ensures in
-    let rests : Rests c.args.moment p = subst (λ (v : Parted). Rests c.args.moment v) (sym c.self.view_is) c.requires.rests in
+    let rests : Rests c.args.moment p = subst (λ (v : Parted). Rests c.args.moment v)
+    (sym c.self.view_is) c.requires.rests in
     let ordered : in_order event p.history ≡ true =
     subst (λ (v : Parted). in_order event v.history ≡ true) (sym c.self.view_is) c.requires.ordered in
     let led : joined p.history r.moment r.kind r.target ≡ None =
     subst (λ (v : Parted). joined v.history r.moment r.kind r.target ≡ None) (sym c.self.view_is) c.requires.leads in
     let planned : IsPlanOf p.history r.moment r.kind r.target c.args.plan =
-    subst (λ (v : Parted). IsPlanOf v.history r.moment r.kind r.target c.args.plan) (sym c.self.view_is) c.requires.planned in
-    let left : length p.history + owed p.history + (2 + 2 * tries_of (all_slots (begun_by r c.args.plan p.history))) ≤ p.limit =
-    subst (λ (v : Parted). RoomFor v (need_of v.history c.args.moment c.args.req c.args.ask c.args.plan)) (sym c.self.view_is) c.requires.room in
+    subst (λ (v : Parted). IsPlanOf v.history r.moment r.kind r.target c.args.plan)
+    (sym c.self.view_is) c.requires.planned in
+    let left : length p.history + owed p.history + (2 + 2 * tries_of (all_slots (begun_by r c.args.plan p.history)))
+    ≤ p.limit =
+    subst (λ (v : Parted). RoomFor v (need_of v.history c.args.moment c.args.req c.args.ask c.args.plan))
+    (sym c.self.view_is) c.requires.room in
     let spare : owed p.history + (2 + 2 * tries_of (all_slots (begun_by r c.args.plan p.history))) ≤ p.queue.spare =
-    subst (λ (v : Parted). owed v.history + need_of v.history c.args.moment c.args.req c.args.ask c.args.plan ≤ v.queue.spare) (sym c.self.view_is) c.requires.places in
-    let places : c.requeue.new.queue.spare + one_if_held r.req.0 c.requeue.new.queue.waiting ≡ p.queue.spare + one_if_held r.req.0 p.queue.waiting = c.requeue.ensures.places in
+    subst (λ (v : Parted). owed v.history + need_of v.history c.args.moment c.args.req c.args.ask c.args.plan
+    ≤ v.queue.spare) (sym c.self.view_is) c.requires.places in
+    let places : c.requeue.new.queue.spare + one_if_held r.req.0 c.requeue.new.queue.waiting ≡ p.queue.spare
+    + one_if_held r.req.0 p.queue.waiting = c.requeue.ensures.places in
     let pushed : c.push.new.self.history ≡ entry r.moment event ∷ p.history =
-    c.push.ensures.history ∙ ap (λ (q : Request). entry r.moment (Event.Ask q) ∷ p.history) (c.in_ok-request.ensures ∙ c.into_request.ensures) in
+    c.push.ensures.history ∙ ap (λ (q : Request). entry r.moment (Event.Ask q) ∷ p.history)
+    (c.in_ok-request.ensures ∙ c.into_request.ensures) in
     between-begun r c.args.plan c.args.ask.client p rests q (record { history = pushed; limit = c.push.ensures.limit })
     ordered led planned (omega (arith, left))
-    (subst (λ (o : Begun). StandsFor c.begin.new.self (ask_entry o.moment (begun_request o c.args.ask.client c.args.plan.scope) ∷ p.history)) own (c.in_ok-begin.ensures.ok c.args.ask.client))
+    (subst (λ (o : Begun). StandsFor c.begin.new.self
+    (ask_entry o.moment (begun_request o c.args.ask.client c.args.plan.scope) ∷ p.history)) own
+    (c.in_ok-begin.ensures.ok c.args.ask.client))
     (subst (λ (o : Begun). AreAt o.moment c.begin.new.self.operations) own c.in_ok-begin.ensures.at)
     (subst (λ (o : Begun). OthersWait o.req.0 p.ops c.begin.new.self) own c.begin.ensures.others)
-    (subst (λ (h : History). Changes r.req.0 (wanted h r.req.0 c.begin.new.self) p.queue.waiting c.requeue.new.queue.waiting) pushed c.requeue.ensures.changes)
+    (subst (λ (h : History). Changes r.req.0 (wanted h r.req.0 c.begin.new.self) p.queue.waiting
+    c.requeue.new.queue.waiting) pushed c.requeue.ensures.changes)
     c.requeue.ensures.alive
     (omega (arith, spare, places))

@@ -9,9 +9,25 @@ use Rattle.fnc_core.proofs.parts.Parts.enter.Goals as goal
 
 pub returns-clause-rests : goal.returns-clause-rests
 returns-clause-rests c =
-    let p : Parted = record { history = c.self.inside.journal.history; limit = c.self.inside.journal.limit; ops = c.self.inside.ops; queue = c.self.inside.queue } in
-    let q : Parted = record { history = c.push.new.self.history; limit = c.push.new.self.limit; ops = c.self.inside.ops; queue = c.self.inside.queue } in
+    let p : Parted = record {
+      history = c.self.inside.journal.history;
+      limit = c.self.inside.journal.limit;
+      ops =
+          c.self.inside.ops;
+      queue = c.self.inside.queue;
+    } in
+    let q : Parted = record {
+      history = c.push.new.self.history;
+      limit = c.push.new.self.limit;
+      ops =
+          c.self.inside.ops;
+      queue = c.self.inside.queue;
+    } in
     rests-entered c.args.moment c.args.event p q
-    (subst (λ (v : Parted). Rests c.args.moment v) (sym c.self.view_is) c.requires.rests) c.requires.quiet (subst (λ (v : Parted). in_order c.args.event v.history ≡ true) (sym c.self.view_is) c.requires.ordered) c.requires.bounded
-    (subst (λ (v : Parted). LeavesFewNames c.args.moment c.args.event v.history) (sym c.self.view_is) c.requires.few_names)
-    (subst (λ (v : Parted). RoomFor v 1) (sym c.self.view_is) c.requires.room) (record { history = c.push.ensures.history; limit = c.push.ensures.limit }) refl refl
+    (subst (λ (v : Parted). Rests c.args.moment v) (sym c.self.view_is) c.requires.rests) c.requires.quiet
+    (subst (λ (v : Parted). in_order c.args.event v.history ≡ true) (sym c.self.view_is) c.requires.ordered)
+    c.requires.bounded
+    (subst (λ (v : Parted). LeavesFewNames c.args.moment c.args.event v.history)
+    (sym c.self.view_is) c.requires.few_names)
+    (subst (λ (v : Parted). RoomFor v 1) (sym c.self.view_is) c.requires.room)
+    (record { history = c.push.ensures.history; limit = c.push.ensures.limit }) refl refl

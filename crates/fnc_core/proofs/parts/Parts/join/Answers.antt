@@ -27,12 +27,15 @@ returns-clause-between c =
       queue = c.self.inside.queue;
     } in
     let request : Request = request_of c.args.req c.args.lead c.args.ask c.args.scope in
-    let rests : Rests c.args.moment p = subst (λ (v : Parted). Rests c.args.moment v) (sym c.self.view_is) c.requires.rests in
+    let rests : Rests c.args.moment p = subst (λ (v : Parted). Rests c.args.moment v)
+    (sym c.self.view_is) c.requires.rests in
     let ordered : in_order (Event.Ask request) p.history ≡ true =
     subst (λ (v : Parted). in_order (Event.Ask request) v.history ≡ true) (sym c.self.view_is) c.requires.ordered in
-    let led : option_map (λ (o : Operation). o.req) (joined p.history c.args.moment c.args.ask.kind c.args.ask.target) ≡ Some c.args.lead.0 =
+    let led : option_map (λ (o : Operation). o.req)
+    (joined p.history c.args.moment c.args.ask.kind c.args.ask.target) ≡ Some c.args.lead.0 =
     subst
-    (λ (v : Parted). option_map (λ (o : Operation). o.req) (joined v.history c.args.moment c.args.ask.kind c.args.ask.target) ≡ Some c.args.lead.0)
+    (λ (v : Parted). option_map (λ (o : Operation). o.req)
+    (joined v.history c.args.moment c.args.ask.kind c.args.ask.target) ≡ Some c.args.lead.0)
     (sym c.self.view_is) c.requires.leads in
     let room : RoomFor p 2 = subst (λ (v : Parted). RoomFor v 2) (sym c.self.view_is) c.requires.room in
     let places : owed p.history + 1 ≤ p.queue.spare =

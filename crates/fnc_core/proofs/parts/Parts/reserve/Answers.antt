@@ -14,9 +14,11 @@ returns-clause-stays c =
       queue = c.self.inside.queue;
     } in
     let q : Parted = record p { queue = c.reserve.new.self } in
-    let rests : Rests c.args.moment p = subst (λ (v : Parted). Rests c.args.moment v) (sym c.self.view_is) c.requires.rests in
+    let rests : Rests c.args.moment p = subst (λ (v : Parted). Rests c.args.moment v)
+    (sym c.self.view_is) c.requires.rests in
     subst (λ (v : Parted). Stays c.args.moment v q) c.self.view_is
-    (stays-either c.args.moment c.args.places p c.reserve.new.self c.reserve.result rests c.reserve.ensures.ok c.reserve.ensures.err)
+    (stays-either c.args.moment c.args.places p c.reserve.new.self c.reserve.result rests c.reserve.ensures.ok
+    c.reserve.ensures.err)
 
 pub returns-clause-places : goal.returns-clause-places
 returns-clause-places c =
