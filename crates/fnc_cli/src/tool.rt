@@ -3,15 +3,14 @@
 ghost use Rattle.std.specs.Prelude.{◌≡◌, ◌≤◌, ◌↔◌, ◌⊎◌, ◌∷◌, [], IfSome, IfNone, IsTrue, map, codes, string_bytes};
 ghost use Rattle.fnc_outside.specs.Told.{Gains};
 ghost use Rattle.fnc_replay.specs.Session.{Wrote, HasCause, IsServed, cored};
+ghost use Rattle.fnc_replay.specs.SourceAndSink.{change, source_told, sink_told};
 ghost use Rattle.fnc_replay.specs.Heard.{Heard};
 
+use fnc_journal::limits::DEFAULT_JOURNAL;
 use fnc_journal::{Journal, Outcome};
 use fnc_outside::{Sink, Source};
 use fnc_replay::replay;
 use std::alloc::Global;
-
-/// The most entries that the journal of a session holds.
-const LIMIT: u32 = 65_536;
 
 /// The most polls that a command makes.
 const POLLS: u64 = 4_294_967_295;
@@ -39,7 +38,7 @@ fn is_replay(words: &[String]) -> bool
 }
 
 /// Runs the command that the words name. The one word `replay` replays the lines of the source, with a
-/// journal of at most 65,536 entries, and writes the answers to the sink; any other words are no command,
+/// journal of the size that is usual, and writes the answers to the sink; any other words are no command,
 /// which is `Usage`. The journal handed back is lawful, calm and driven, and all that it owes at its last
 /// moment is answered; `Heard` says that its inputs are those of the lines that the source gave, `HasCause`
 /// why the session ended, and `Wrote` what was written and sent on.
@@ -53,17 +52,20 @@ pub fn run_tool<S: Source + Drop, K: Sink + Drop>(
     ensures none { IfNone result.journal ((result.outcome ≡ Outcome.Usage) ⊎ (result.outcome ≡ Outcome.NoMemory)) }
     ensures nothing_read { IfNone result.journal (Gains (S.given source) (S.given result.source) []) }
     ensures nothing_written { IfNone result.journal (Gains (K.held sink) (K.held result.sink) []) }
+    ensures unpolled { IfNone result.journal (result.polls ≡ 0) }
     ensures served { IfSome result.journal (λ j. IsServed j.history) }
-    ensures limit { IfSome result.journal (λ j. j.limit ≡ 65_536) }
-    ensures text { IfSome result.journal (λ j.
-        Wrote result.outcome (K.held sink) (K.held result.sink) (K.faults sink) (K.faults result.sink)
-        (K.unsent result.sink) j.history) }
-    ensures cause { IfSome result.journal (λ j.
-        HasCause result.outcome (S.left result.source) (S.faults source) (S.faults result.source)
-        (K.faults sink) (K.faults result.sink) j result.polls 4_294_967_295) }
+    ensures limit { IfSome result.journal (λ j. j.limit ≡ DEFAULT_JOURNAL) }
+    ensures text { let of_sink = sink_told K.held K.unsent K.faults in IfSome result.journal (λ j.
+        Wrote result.outcome (change (of_sink sink) (of_sink result.sink)) j.history) }
+    ensures cause {
+        let of_source = source_told S.given S.left S.faults in
+        let of_sink = sink_told K.held K.unsent K.faults in
+        IfSome result.journal (λ j.
+        HasCause result.outcome (change (of_source source) (of_source result.source))
+        (change (of_sink sink) (of_sink result.sink)) (record { made = result.polls; allowed = POLLS }) j) }
     ensures heard { IfSome result.journal (λ j.
         Heard result.outcome (S.given source) (S.given result.source) result.polls (cored j)) }
-    ensures polls { result.polls ≤ 4_294_967_295 }
+    ensures polls { result.polls ≤ POLLS }
 {
     if !is_replay(words) {
         return Tooled {
@@ -74,7 +76,7 @@ pub fn run_tool<S: Source + Drop, K: Sink + Drop>(
             sink,
         };
     }
-    let replayed = replay(alloc, source, sink, LIMIT, POLLS);
+    let replayed = replay(alloc, source, sink, DEFAULT_JOURNAL, POLLS);
     Tooled {
         outcome: replayed.outcome,
         journal: replayed.journal,

@@ -23,17 +23,20 @@ grows-served line old new s =
     record {
       more = s.starts.some.starts ++ (e.replies ++ (input ∷ e.advance));
       history =
-          s.starts.some.history ∙ ap (λ (h : History). s.starts.some.starts ++ h) (e.history ∙ sym (append_assoc e.replies (input ∷ e.advance) old.history))
+          s.starts.some.history ∙ ap (λ (h : History). s.starts.some.starts ++ h)
+              (e.history ∙ sym (append_assoc e.replies (input ∷ e.advance) old.history))
           ∙ sym (append_assoc s.starts.some.starts (e.replies ++ (input ∷ e.advance)) old.history);
       limit = s.starts.some.limit ∙ e.limit;
     }
 
 pub grows-passed : (line : Happening) (full : Full) (old new : Cored) → LacksRoom line old new full → Grows old new
-grows-passed line full old new p = record { more = p.advances.advance; history = p.advances.history; limit = p.advances.limit }
+grows-passed line full old new p =
+    record { more = p.advances.advance; history = p.advances.history; limit = p.advances.limit }
 
 prefix-append : (xs h : History) → prefix (length h) (xs ++ h) ≡ h
 prefix-append [] h = prefix-all h (length h) (omega arith)
-prefix-append (x ∷ xs) h = rw (le-ltb (length (xs ++ h)) (length h) (let l = length-append xs h in omega (arith, l))) (prefix-append xs h)
+prefix-append (x ∷ xs) h =
+    rw (le-ltb (length (xs ++ h)) (length h) (let l = length-append xs h in omega (arith, l))) (prefix-append xs h)
 
 -- what lay before is a prefix of it
 pub prefix-grown : (old new : Cored) → Grows old new → prefix (length old.history) new.history ≡ old.history

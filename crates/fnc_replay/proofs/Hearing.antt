@@ -1,5 +1,34 @@
 -- How the inputs of a journal go on being those of the lines that came.
-use Rattle.std.proofs.Common.{ℕ, List, [], ◌∷◌, ◌++◌, Bool, true, false, ◌≡◌, ◌+◌, ◌<◌, refl, ap, ap₂, sym, ◌∙◌, subst, Option, Some, None, arith, inl, inr, cond, length, length-append, append-nil, reverse}
+use Rattle.std.proofs.Common.{
+  ℕ,
+  List,
+  [],
+  ◌∷◌,
+  ◌++◌,
+  Bool,
+  true,
+  false,
+  ◌≡◌,
+  ◌+◌,
+  ◌<◌,
+  refl,
+  ap,
+  ap₂,
+  sym,
+  ◌∙◌,
+  subst,
+  Option,
+  Some,
+  None,
+  arith,
+  inl,
+  inr,
+  cond,
+  length,
+  length-append,
+  append-nil,
+  reverse,
+}
 use Rattle.std.specs.Prelude.{filter, unwrap_or, IfSome}
 use Rattle.std.proofs.lemmas.List.{reverse-append}
 use Rattle.fnc_journal.specs.declared.entry.Entry.{Entry}
@@ -20,26 +49,31 @@ use Rattle.fnc_desk.specs.Inputs.{Gives, inputs, line_number, need_of}
 use Rattle.fnc_desk.specs.Lines.{AreLines, FindsNoRoom, IsOfLine, NewestFindsNoRoom, is_line, last_come, newest_lines}
 use Rattle.fnc_desk.proofs.Counting.{given-is_input}
 use Rattle.fnc_replay.specs.Heard.{Heard, HeardSoFar, HearsOn, HasInputs}
-use Rattle.fnc_replay.specs.Polls.{GaveLine, Serves, Takes}
+use Rattle.fnc_replay.specs.Polls.{GaveLine, GaveNothing, Serves, Takes}
 use Rattle.fnc_replay.specs.declared.taken.Taken.{Taken}
 use Rattle.fnc_replay.specs.Rests.{ServesLine}
+use Rattle.fnc_replay.specs.SourceAndSink.{Change, SinkTold, SourceTold}
 use Rattle.fnc_replay.specs.Session.{Closes, EndsWriting, IsWriteFault, after_failed_flush, cored}
 use Rattle.fnc_replay.proofs.Resting.{AreOutputs, last_input-outputs, outputs-replies, outputs-starts}
 
 -- the lines of one event more
-filter-last : (xs : List Happening) (x : Happening) → filter is_line (xs ++ x ∷ []) ≡ filter is_line xs ++ filter is_line (x ∷ [])
+filter-last : (xs : List Happening) (x : Happening) →
+    filter is_line (xs ++ x ∷ []) ≡ filter is_line xs ++ filter is_line (x ∷ [])
 filter-last [] x = refl
 filter-last (y ∷ xs) x = go (is_line y) (filter-last xs x)
   where
     go : (b : Bool) → filter is_line (xs ++ x ∷ []) ≡ filter is_line xs ++ filter is_line (x ∷ []) →
-        cond b (y ∷ filter is_line (xs ++ x ∷ [])) (filter is_line (xs ++ x ∷ [])) ≡ cond b (y ∷ filter is_line xs) (filter is_line xs) ++ filter is_line (x ∷ [])
+        cond b (y ∷ filter is_line (xs ++ x ∷ [])) (filter is_line (xs ++ x ∷ []))
+            ≡ cond b (y ∷ filter is_line xs) (filter is_line xs) ++ filter is_line (x ∷ [])
     go true e = ap (λ zs. y ∷ zs) e
     go false e = e
 
-newest-last : (xs : List Happening) (x : Happening) → newest_lines (xs ++ x ∷ []) ≡ newest_lines (x ∷ []) ++ newest_lines xs
+newest-last : (xs : List Happening) (x : Happening) →
+    newest_lines (xs ++ x ∷ []) ≡ newest_lines (x ∷ []) ++ newest_lines xs
 newest-last xs x = ap reverse (filter-last xs x) ∙ reverse-append (filter is_line xs) (filter is_line (x ∷ []))
 
-newest-line : (xs : List Happening) (x : Happening) → is_line x ≡ true → newest_lines (xs ++ x ∷ []) ≡ x ∷ newest_lines xs
+newest-line : (xs : List Happening) (x : Happening) → is_line x ≡ true →
+    newest_lines (xs ++ x ∷ []) ≡ x ∷ newest_lines xs
 newest-line xs x e = newest-last xs x ∙ rw e refl
 
 -- there are as many inputs as lines
@@ -47,33 +81,41 @@ inputs-lines : (h : History) (lines : List Happening) → AreLines h lines → i
 inputs-lines [] lines a = sym (ap length a)
 inputs-lines (e ∷ before) lines a = go (is_input e.event) lines a (inputs-lines before)
   where
-    go : (b : Bool) (lines : List Happening) → IsOfLine b lines e before (AreLines before) → ((lines : List Happening) → AreLines before lines → inputs before ≡ length lines) →
+    go : (b : Bool) (lines : List Happening) → IsOfLine b lines e before (AreLines before) →
+        ((lines : List Happening) → AreLines before lines → inputs before ≡ length lines) →
         cond b (inputs before + 1) (inputs before) ≡ length lines
     go false lines a ih = ih lines a
     go true [] a ih = absurd a
     go true (line ∷ lines) a ih = let rest = ih lines a.1 in omega (arith, rest)
 
 -- outputs have no line
-lines-outputs : (m : ℕ) (os h : History) (lines : List Happening) → AreOutputs m os → AreLines h lines → AreLines (os ++ h) lines
+lines-outputs : (m : ℕ) (os h : History) (lines : List Happening) → AreOutputs m os → AreLines h lines →
+    AreLines (os ++ h) lines
 lines-outputs m [] h lines a l = l
 lines-outputs m (o ∷ os) h lines a l = rw a.0.0 (lines-outputs m os h lines a.1 l)
 
 -- what a line gave with the last moment and its number, it gave with those of the lines that came
-gives-heard : (line : Happening) (lines : List Happening) (old : Cored) (e : Entry) (m : ℕ) (rs : History) → AreReplies m rs → AreLines old.history lines → last_come old.history ≡ old.last →
-    Gives line (rs ++ old.history) old.last (line_number (inputs old.history)) e → Gives line (rs ++ old.history) (last_come (rs ++ old.history)) (line_number (length lines)) e
+gives-heard : (line : Happening) (lines : List Happening) (old : Cored) (e : Entry) (m : ℕ) (rs : History) →
+    AreReplies m rs → AreLines old.history lines → last_come old.history ≡ old.last →
+    Gives line (rs ++ old.history) old.last (line_number (inputs old.history)) e →
+    Gives line (rs ++ old.history) (last_come (rs ++ old.history)) (line_number (length lines)) e
 gives-heard line lines old e m rs r a l g =
     subst (λ n. Gives line (rs ++ old.history) n (line_number (length lines)) e) (sym (last_come-replies ∙ l))
     (subst (λ n. Gives line (rs ++ old.history) old.last (line_number n) e) (inputs-lines old.history lines a) g)
   where
     last_come-replies : last_come (rs ++ old.history) ≡ last_come old.history
-    last_come-replies = ap (λ (o : Option ℕ). unwrap_or o 0) (last_input-outputs m rs old.history (outputs-replies m rs r))
+    last_come-replies =
+        ap (λ (o : Option ℕ). unwrap_or o 0) (last_input-outputs m rs old.history (outputs-replies m rs r))
 
 -- a line that was served gave the newest input
-lines-served : (line : Happening) (lines : List Happening) (old new : Cored) → AreLines old.history lines → last_come old.history ≡ old.last → ServesLine line old new → AreLines new.history (line ∷ lines)
+lines-served : (line : Happening) (lines : List Happening) (old new : Cored) → AreLines old.history lines →
+    last_come old.history ≡ old.last → ServesLine line old new → AreLines new.history (line ∷ lines)
 lines-served line lines old new a l s =
     subst (λ (h : History). AreLines h (line ∷ lines)) (sym whole)
-    (lines-outputs s.mid.last s.starts.some.starts _ (line ∷ lines) (outputs-starts s.mid.last s.starts.some.starts s.starts.some.started)
-    (lines-outputs s.takes.entry.moment s.takes.enters.replies _ (line ∷ lines) (outputs-replies s.takes.entry.moment s.takes.enters.replies s.takes.enters.answered) here))
+    (lines-outputs s.mid.last s.starts.some.starts _ (line ∷ lines)
+        (outputs-starts s.mid.last s.starts.some.starts s.starts.some.started)
+    (lines-outputs s.takes.entry.moment s.takes.enters.replies _ (line ∷ lines)
+        (outputs-replies s.takes.entry.moment s.takes.enters.replies s.takes.enters.answered) here))
   where
     met : History
     met = s.takes.enters.advance ++ old.history
@@ -85,8 +127,10 @@ lines-served line lines old new a l s =
     here =
         let is : is_input s.takes.entry.event ≡ true = given-is_input line met old.last _ s.takes.entry s.takes.is in
         rw is (
-          gives-heard line lines old s.takes.entry s.takes.entry.moment s.takes.enters.advance s.takes.enters.at_once a l s.takes.is,
-          lines-outputs s.takes.entry.moment s.takes.enters.advance old.history lines (outputs-replies s.takes.entry.moment s.takes.enters.advance s.takes.enters.at_once) a,
+          gives-heard line lines old s.takes.entry s.takes.entry.moment s.takes.enters.advance s.takes.enters.at_once a
+              l s.takes.is,
+          lines-outputs s.takes.entry.moment s.takes.enters.advance old.history lines
+              (outputs-replies s.takes.entry.moment s.takes.enters.advance s.takes.enters.at_once) a,
         )
 
 -- and its moment is the last
@@ -99,31 +143,39 @@ last-served line old new s = ap (λ (o : Option ℕ). unwrap_or o 0) found ∙ s
     found : last_input new.history ≡ Some s.takes.entry.moment
     found =
         ap last_input (s.starts.some.history ∙ ap (λ (h : History). s.starts.some.starts ++ h) s.takes.enters.history)
-        ∙ last_input-outputs s.mid.last s.starts.some.starts _ (outputs-starts s.mid.last s.starts.some.starts s.starts.some.started)
-        ∙ last_input-outputs s.takes.entry.moment s.takes.enters.replies _ (outputs-replies s.takes.entry.moment s.takes.enters.replies s.takes.enters.answered)
+        ∙ last_input-outputs s.mid.last s.starts.some.starts _
+            (outputs-starts s.mid.last s.starts.some.starts s.starts.some.started)
+        ∙ last_input-outputs s.takes.entry.moment s.takes.enters.replies _
+            (outputs-replies s.takes.entry.moment s.takes.enters.replies s.takes.enters.answered)
         ∙ rw is refl
 
 -- a line that finds no room
-lacks-room : (line : Happening) (lines : List Happening) (full : Full) (old new : Cored) → AreLines old.history lines → last_come old.history ≡ old.last → LacksRoom line old new full → NewestFindsNoRoom (line ∷ lines) new full
+lacks-room : (line : Happening) (lines : List Happening) (full : Full) (old new : Cored) → AreLines old.history lines →
+    last_come old.history ≡ old.last → LacksRoom line old new full → NewestFindsNoRoom (line ∷ lines) new full
 lacks-room line lines full old new a l k = (
-  subst (λ (h : History). AreLines h lines) (sym k.advances.history) (lines-outputs k.entry.moment k.advances.advance old.history lines (outputs-replies k.entry.moment k.advances.advance k.advances.at_once) a),
+  subst (λ (h : History). AreLines h lines) (sym k.advances.history)
+      (lines-outputs k.entry.moment k.advances.advance old.history lines
+      (outputs-replies k.entry.moment k.advances.advance k.advances.at_once) a),
   record {
     entry = k.entry;
     gives =
-        subst (λ (h : History). Gives line h (last_come h) (line_number (length lines)) k.entry) (sym k.advances.history)
+        subst (λ (h : History). Gives line h (last_come h) (line_number (length lines)) k.entry)
+            (sym k.advances.history)
         (gives-heard line lines old k.entry k.entry.moment k.advances.advance k.advances.at_once a l k.is);
     is_full = k.is_full;
   },
 )
 
 -- what was served is what the source gave
-pub takes-line : (t : Taken) (line : Happening) (old new : Cored) (before after left : Option (List Happening)) (reads reads' : ℕ) → is_line line ≡ true → Gains before after (line ∷ []) → Serves t line old new →
-    Takes t old new before after left reads reads'
-takes-line Taken.Served line old new before after left reads reads' i g s = record { line = line; is_line_given = i; gained = g; does = s }
-takes-line (Taken.Full full) line old new before after left reads reads' i g s = record { line = line; is_line_given = i; gained = g; does = s }
-takes-line Taken.Nothing line old new before after left reads reads' i g s = absurd s
-takes-line Taken.Over line old new before after left reads reads' i g s = absurd s
-takes-line Taken.Failed line old new before after left reads reads' i g s = absurd s
+pub takes-line : (t : Taken) (line : Happening) (source : Change SourceTold) (old new : Cored) → is_line line ≡ true →
+    Gains source.before.given source.after.given (line ∷ []) → Serves t line old new → Takes t source old new
+takes-line Taken.Served line source old new i g s =
+    record { line = line; is_line_given = i; gained = g; does = s }
+takes-line (Taken.Full full) line source old new i g s =
+    record { line = line; is_line_given = i; gained = g; does = s }
+takes-line Taken.Nothing line source old new i g s = absurd s
+takes-line Taken.Over line source old new i g s = absurd s
+takes-line Taken.Failed line source old new i g s = absurd s
 
 -- nothing was gained before the first call
 pub gains-none : {A : Type 0} (told : Option (List A)) → Gains told told []
@@ -141,9 +193,11 @@ heard-none told v h l = record {
 }
 
 -- no line was there yet
-heard-nothing : (start before after : Option (List Happening)) (made : ℕ) (old new : Cored) → HeardSoFar start before made old →
+heard-nothing : (start before after : Option (List Happening)) (made : ℕ) (old new : Cored) →
+    HeardSoFar start before made old →
     new ≡ old → Gains before after (Happening.Again ∷ []) → HeardSoFar start after (made + 1) new
-heard-nothing start before after made old new k e g = subst (λ (v : Cored). HeardSoFar start after (made + 1) v) (sym e) (record {
+heard-nothing start before after made old new k e g =
+    subst (λ (v : Cored). HeardSoFar start after (made + 1) v) (sym e) (record {
   events = k.events ++ Happening.Again ∷ [];
   gained = gains-gains start before after k.events (Happening.Again ∷ []) k.gained g;
   polled = let n = length-append k.events (Happening.Again ∷ []) in let m = k.polled in omega (arith, n, m);
@@ -152,72 +206,89 @@ heard-nothing start before after made old new k e g = subst (λ (v : Cored). Hea
 })
 
 -- a line was served
-heard-line : (start before after : Option (List Happening)) (made : ℕ) (old new : Cored) → HeardSoFar start before made old → GaveLine before after (λ line. ServesLine line old new) → HeardSoFar start after (made + 1) new
-heard-line start before after made old new k g = record {
+heard-line : (start : Option (List Happening)) (source : Change SourceTold) (made : ℕ) (old new : Cored) →
+    HeardSoFar start source.before.given made old → GaveLine source (λ line. ServesLine line old new) →
+    HeardSoFar start source.after.given (made + 1) new
+heard-line start source made old new k g = record {
   events = k.events ++ g.line ∷ [];
-  gained = gains-gains start before after k.events (g.line ∷ []) k.gained g.gained;
+  gained = gains-gains start source.before.given source.after.given k.events (g.line ∷ []) k.gained g.gained;
   polled = let n = length-append k.events (g.line ∷ []) in let m = k.polled in omega (arith, n, m);
-  inputs = subst (AreLines new.history) (sym (newest-line k.events g.line g.is_line_given)) (lines-served g.line (newest_lines k.events) old new k.inputs k.last g.does);
+  inputs =
+      subst (AreLines new.history) (sym (newest-line k.events g.line g.is_line_given))
+      (lines-served g.line (newest_lines k.events) old new k.inputs k.last g.does);
   last = last-served g.line old new g.does;
 }
 
 -- the session goes on, or a write or a flush failed
-hears-on : (r : Option Outcome) (start after : Option (List Happening)) (made writes writes' : ℕ) (new : Cored) →
-    HeardSoFar start after made new → IfSome r (λ o. IsWriteFault o writes writes') → HearsOn r start after made new
-hears-on None start after made writes writes' new k f = k
-hears-on (Some Outcome.WriteFault) start after made writes writes' new k f =
+hears-on : (r : Option Outcome) (start after : Option (List Happening)) (made : ℕ) (sink : Change SinkTold)
+    (new : Cored) → HeardSoFar start after made new → IfSome r (λ o. IsWriteFault o sink) →
+    HearsOn r start after made new
+hears-on None start after made sink new k f = k
+hears-on (Some Outcome.WriteFault) start after made sink new k f =
     record { events = k.events; gained = k.gained; polled = inl k.polled; inputs = k.inputs }
-hears-on (Some Outcome.Finished) start after made writes writes' new k f = absurd f
-hears-on (Some Outcome.ReadFault) start after made writes writes' new k f = absurd f
-hears-on (Some Outcome.Budget) start after made writes writes' new k f = absurd f
-hears-on (Some (Outcome.JournalFull full)) start after made writes writes' new k f = absurd f
-hears-on (Some Outcome.Usage) start after made writes writes' new k f = absurd f
-hears-on (Some Outcome.NoMemory) start after made writes writes' new k f = absurd f
-hears-on (Some (Outcome.Unlawful index rule)) start after made writes writes' new k f = absurd f
-hears-on (Some (Outcome.BadEntry line)) start after made writes writes' new k f = absurd f
+hears-on (Some Outcome.Finished) start after made sink new k f = absurd f
+hears-on (Some Outcome.ReadFault) start after made sink new k f = absurd f
+hears-on (Some Outcome.Budget) start after made sink new k f = absurd f
+hears-on (Some (Outcome.JournalFull full)) start after made sink new k f = absurd f
+hears-on (Some Outcome.Usage) start after made sink new k f = absurd f
+hears-on (Some Outcome.NoMemory) start after made sink new k f = absurd f
+hears-on (Some (Outcome.Unlawful index rule)) start after made sink new k f = absurd f
+hears-on (Some (Outcome.BadEntry line)) start after made sink new k f = absurd f
 
 -- after a poll that found no line
-pub heard-again : (r : Option Outcome) (start before after : Option (List Happening)) (made writes writes' : ℕ) (old new : Cored) →
-    HeardSoFar start before made old → new ≡ old → Gains before after (Happening.Again ∷ []) →
-    IfSome r (λ o. IsWriteFault o writes writes') → HearsOn r start after (made + 1) new
-heard-again r start before after made writes writes' old new k e g f =
-    hears-on r start after (made + 1) writes writes' new (heard-nothing start before after made old new k e g) f
+pub heard-again : (r : Option Outcome) (start before after : Option (List Happening)) (made : ℕ)
+    (sink : Change SinkTold) (old new : Cored) → HeardSoFar start before made old → new ≡ old →
+    Gains before after (Happening.Again ∷ []) → IfSome r (λ o. IsWriteFault o sink) →
+    HearsOn r start after (made + 1) new
+heard-again r start before after made sink old new k e g f =
+    hears-on r start after (made + 1) sink new (heard-nothing start before after made old new k e g) f
 
 -- after a poll that gave a line
-pub heard-served : (r : Option Outcome) (start before after : Option (List Happening)) (made writes writes' : ℕ) (old new : Cored) →
-    HeardSoFar start before made old → GaveLine before after (λ line. ServesLine line old new) →
-    IfSome r (λ o. IsWriteFault o writes writes') → HearsOn r start after (made + 1) new
-heard-served r start before after made writes writes' old new k g f =
-    hears-on r start after (made + 1) writes writes' new (heard-line start before after made old new k g) f
+pub heard-served : (r : Option Outcome) (start : Option (List Happening)) (source : Change SourceTold) (made : ℕ)
+    (sink : Change SinkTold) (old new : Cored) → HeardSoFar start source.before.given made old →
+    GaveLine source (λ line. ServesLine line old new) → IfSome r (λ o. IsWriteFault o sink) →
+    HearsOn r start source.after.given (made + 1) new
+heard-served r start source made sink old new k g f =
+    hears-on r start source.after.given (made + 1) sink new (heard-line start source made old new k g) f
 
 -- a line found no room
-pub heard-full : (start before after : Option (List Happening)) (made : ℕ) (full : Full) (old new : Cored) → HeardSoFar start before made old → GaveLine before after (λ line. LacksRoom line old new full) →
-    Heard (Outcome.JournalFull full) start after (made + 1) new
-heard-full start before after made full old new k g = record {
+pub heard-full : (start : Option (List Happening)) (source : Change SourceTold) (made : ℕ) (full : Full)
+    (old new : Cored) → HeardSoFar start source.before.given made old →
+    GaveLine source (λ line. LacksRoom line old new full) →
+    Heard (Outcome.JournalFull full) start source.after.given (made + 1) new
+heard-full start source made full old new k g = record {
   events = k.events ++ g.line ∷ [];
-  gained = gains-gains start before after k.events (g.line ∷ []) k.gained g.gained;
+  gained = gains-gains start source.before.given source.after.given k.events (g.line ∷ []) k.gained g.gained;
   polled = let n = length-append k.events (g.line ∷ []) in let m = k.polled in omega (arith, n, m);
-  inputs = subst (λ (lines : List Happening). NewestFindsNoRoom lines new full) (sym (newest-line k.events g.line g.is_line_given)) (lacks-room g.line (newest_lines k.events) full old new k.inputs k.last g.does);
+  inputs =
+      subst (λ (lines : List Happening). NewestFindsNoRoom lines new full)
+      (sym (newest-line k.events g.line g.is_line_given))
+      (lacks-room g.line (newest_lines k.events) full old new k.inputs k.last g.does);
 }
 
 -- the source is at its end
-pub heard-end : (o : Outcome) (start before after : Option (List Happening)) (made writes writes' : ℕ) (old new : Cored) → HeardSoFar start before made old → new ≡ old → Gains before after [] →
-    EndsWriting o writes writes' → Heard o start after (made + 1) new
-heard-end o start before after made writes writes' old new k e g f = subst (λ (v : Cored). Heard o start after (made + 1) v) (sym e) (go o f)
+pub heard-end : (o : Outcome) (start : Option (List Happening)) (source : Change SourceTold) (made : ℕ)
+    (sink : Change SinkTold) (old new : Cored) → HeardSoFar start source.before.given made old → new ≡ old →
+    GaveNothing source → EndsWriting o sink → Heard o start source.after.given (made + 1) new
+heard-end o start source made sink old new k e g f =
+    subst (λ (v : Cored). Heard o start source.after.given (made + 1) v) (sym e) (go o f)
   where
     events : List Happening
     events = k.events ++ []
 
-    gained : Gains start after events
-    gained = gains-gains start before after k.events [] k.gained g
+    gained : Gains start source.after.given events
+    gained = gains-gains start source.before.given source.after.given k.events [] k.gained g
 
     polled : length events + 1 ≡ made + 1
-    polled = let n : length events ≡ length k.events = ap length (append-nil k.events) in let m = k.polled in omega (arith, n, m)
+    polled =
+        let n : length events ≡ length k.events = ap length (append-nil k.events) in
+        let m = k.polled in
+        omega (arith, n, m)
 
     lines : AreLines old.history (newest_lines events)
     lines = subst (λ (es : List Happening). AreLines old.history (newest_lines es)) (sym (append-nil k.events)) k.inputs
 
-    go : (o : Outcome) → EndsWriting o writes writes' → Heard o start after (made + 1) old
+    go : (o : Outcome) → EndsWriting o sink → Heard o start source.after.given (made + 1) old
     go Outcome.Finished f = record { events = events; gained = gained; polled = polled; inputs = lines }
     go Outcome.WriteFault f = record { events = events; gained = gained; polled = inr polled; inputs = lines }
     go Outcome.ReadFault f = absurd f
@@ -229,20 +300,30 @@ heard-end o start before after made writes writes' old new k e g f = subst (λ (
     go (Outcome.BadEntry line) f = absurd f
 
 -- a read failed
-pub heard-fault : (start before after : Option (List Happening)) (made : ℕ) (old new : Cored) → HeardSoFar start before made old → new ≡ old → Gains before after [] → Heard Outcome.ReadFault start after (made + 1) new
-heard-fault start before after made old new k e g = subst (λ (v : Cored). Heard Outcome.ReadFault start after (made + 1) v) (sym e) (record {
-  events = k.events ++ [];
-  gained = gains-gains start before after k.events [] k.gained g;
-  polled = let n : length (k.events ++ []) ≡ length k.events = ap length (append-nil k.events) in let m = k.polled in omega (arith, n, m);
-  inputs = subst (λ (es : List Happening). AreLines old.history (newest_lines es)) (sym (append-nil k.events)) k.inputs;
-})
+pub heard-fault : (start : Option (List Happening)) (source : Change SourceTold) (made : ℕ) (old new : Cored) →
+    HeardSoFar start source.before.given made old → new ≡ old → GaveNothing source →
+    Heard Outcome.ReadFault start source.after.given (made + 1) new
+heard-fault start source made old new k e g =
+    subst (λ (v : Cored). Heard Outcome.ReadFault start source.after.given (made + 1) v) (sym e) (record {
+      events = k.events ++ [];
+      gained = gains-gains start source.before.given source.after.given k.events [] k.gained g;
+      polled =
+          let n : length (k.events ++ []) ≡ length k.events = ap length (append-nil k.events) in
+          let m = k.polled in
+          omega (arith, n, m);
+      inputs =
+          subst (λ (es : List Happening). AreLines old.history (newest_lines es)) (sym (append-nil k.events)) k.inputs;
+    })
 
 -- the allowed polls were made
-pub heard-budget : (start after : Option (List Happening)) (made : ℕ) (v : Cored) → HeardSoFar start after made v → Heard Outcome.Budget start after made v
-heard-budget start after made v k = record { events = k.events; gained = k.gained; polled = k.polled; inputs = k.inputs }
+pub heard-budget : (start after : Option (List Happening)) (made : ℕ) (v : Cored) → HeardSoFar start after made v →
+    Heard Outcome.Budget start after made v
+heard-budget start after made v k =
+    record { events = k.events; gained = k.gained; polled = k.polled; inputs = k.inputs }
 
 -- where the last flush fails, as much was heard
-heard-failed : (o : Outcome) (before after : Option (List Happening)) (polls : ℕ) (v : Cored) → Heard o before after polls v →
+heard-failed : (o : Outcome) (before after : Option (List Happening)) (polls : ℕ) (v : Cored) →
+    Heard o before after polls v →
     Heard (after_failed_flush o) before after polls v
 heard-failed Outcome.Finished before after polls v k =
     record { events = k.events; gained = k.gained; polled = inr k.polled; inputs = k.inputs }
@@ -256,16 +337,18 @@ heard-failed Outcome.NoMemory before after polls v k = k
 heard-failed (Outcome.Unlawful index rule) before after polls v k = k
 heard-failed (Outcome.BadEntry line) before after polls v k = k
 
-pub heard-closed : (o closed : Outcome) (writes writes' : ℕ) (before after : Option (List Happening)) (polls : ℕ) (v : Cored) →
-    Closes o closed writes writes' → Heard o before after polls v → Heard closed before after polls v
-heard-closed o closed writes writes' before after polls v c k = elim c [
+pub heard-closed : (o closed : Outcome) (sink : Change SinkTold) (before after : Option (List Happening)) (polls : ℕ)
+    (v : Cored) → Closes o closed sink → Heard o before after polls v → Heard closed before after polls v
+heard-closed o closed sink before after polls v c k = elim c [
   | inl same ↦ subst (λ x. Heard x before after polls v) (sym same) k
   | inr failed ↦ subst (λ x. Heard x before after polls v) (sym failed.0) (heard-failed o before after polls v k)
 ]
 
 -- what was heard is heard of the journal that is handed back
-pub heard-cored : (o : Outcome) (before after : Option (List Happening)) (polls : ℕ) (v : Cored) (j : Journaled) → j.history ≡ v.history → j.limit ≡ v.limit → Heard o before after polls v → Heard o before after polls (cored j)
-heard-cored o before after polls v j e l k = record { events = k.events; gained = k.gained; polled = k.polled; inputs = go o (newest_lines k.events) k.inputs }
+pub heard-cored : (o : Outcome) (before after : Option (List Happening)) (polls : ℕ) (v : Cored) (j : Journaled) →
+    j.history ≡ v.history → j.limit ≡ v.limit → Heard o before after polls v → Heard o before after polls (cored j)
+heard-cored o before after polls v j e l k =
+    record { events = k.events; gained = k.gained; polled = k.polled; inputs = go o (newest_lines k.events) k.inputs }
   where
     lines : (xs : List Happening) → AreLines v.history xs → AreLines j.history xs
     lines xs a = subst (λ (h : History). AreLines h xs) (sym e) a
@@ -273,13 +356,19 @@ heard-cored o before after polls v j e l k = record { events = k.events; gained 
     full-is : (n : ℕ) (full : Full) → IsFull v n full → IsFull (cored j) n full
     full-is n full f = moved j.history j.limit e l
       where
-        moved : (h : History) (limit : ℕ) → h ≡ v.history → limit ≡ v.limit → IsFull (record { history = h; last = last_moment h; limit = limit }) n full
+        moved : (h : History) (limit : ℕ) → h ≡ v.history → limit ≡ v.limit →
+            IsFull (record { history = h; last = last_moment h; limit = limit }) n full
         moved h limit e l = record {
-          says = f.says ∙ ap₂ (λ (x : History) (k : ℕ). record { entries = length x; owed = owed x; need = n; limit = k }) (sym e) (sym l);
-          above = subst (λ (x : History). limit < length x + owed x + n) (sym e) (subst (λ k. k < length v.history + owed v.history + n) (sym l) f.above);
+          says =
+              f.says ∙ ap₂ (λ (x : History) (k : ℕ). record { entries = length x; owed = owed x; need = n; limit = k })
+              (sym e) (sym l);
+          above =
+              subst (λ (x : History). limit < length x + owed x + n) (sym e)
+              (subst (λ k. k < length v.history + owed v.history + n) (sym l) f.above);
         }
 
-    room : (line : Happening) (xs : List Happening) (full : Full) → FindsNoRoom line xs v full → FindsNoRoom line xs (cored j) full
+    room : (line : Happening) (xs : List Happening) (full : Full) → FindsNoRoom line xs v full →
+        FindsNoRoom line xs (cored j) full
     room line xs full f = record {
       entry = f.entry;
       gives = subst (λ (h : History). Gives line h (last_come h) (line_number (length xs)) f.entry) (sym e) f.gives;

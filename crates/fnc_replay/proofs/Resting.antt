@@ -1,5 +1,36 @@
 -- How a line, served in full, leaves the session at rest.
-use Rattle.std.proofs.Common.{ℕ, List, [], ◌∷◌, ◌++◌, Bool, true, false, ◌≡◌, ◌≤◌, ◌<◌, refl, ap, sym, ◌∙◌, subst, Option, Some, None, IsTrue, arith, inl, inr, ◌==◌, eq-eqb, eqb-true, false-eqb, ap₂, ◌+◌, length}
+use Rattle.std.proofs.Common.{
+  ℕ,
+  List,
+  [],
+  ◌∷◌,
+  ◌++◌,
+  Bool,
+  true,
+  false,
+  ◌≡◌,
+  ◌≤◌,
+  ◌<◌,
+  refl,
+  ap,
+  sym,
+  ◌∙◌,
+  subst,
+  Option,
+  Some,
+  None,
+  IsTrue,
+  arith,
+  inl,
+  inr,
+  ◌==◌,
+  eq-eqb,
+  eqb-true,
+  false-eqb,
+  ap₂,
+  ◌+◌,
+  length,
+}
 use Rattle.std.specs.Prelude.{◌⊎◌}
 use Rattle.std.specs.List.{AllByRecursion}
 use Rattle.fnc_journal.specs.declared.entry.Entry.{Entry}
@@ -19,9 +50,19 @@ use Rattle.fnc_core.specs.declared.change.Started.{Started}
 use Rattle.fnc_desk.specs.Entered.{TakesLine, LacksRoom}
 use Rattle.fnc_desk.proofs.Counting.{given-is_input}
 use Rattle.fnc_replay.specs.Rests.{Rests, AreStarts, StartsSome, StartsAll, ServesLine}
-use Rattle.fnc_replay.specs.Session.{Closes, EndsBy, HasCause, IsServed, Turns, after_failed_flush, cored}
+use Rattle.fnc_replay.specs.Session.{
+  Closes,
+  EndsBy,
+  HasCause,
+  IsServed,
+  PollCounts,
+  SinkFaulted,
+  Turns,
+  after_failed_flush,
+  cored,
+}
+use Rattle.fnc_replay.specs.SourceAndSink.{Change, SinkTold, SourceTold, change}
 use Rattle.fnc_outside.specs.Events.{Happening}
-use Rattle.fnc_outside.specs.Faults.{Rose}
 use Rattle.fnc_outside.proofs.Telling.{rose-then, then-rose}
 
 start-no_input : (event : Event) → is_start event ≡ true → is_input event ≡ false
@@ -57,7 +98,8 @@ last_input-outputs m (x ∷ xs) h a = rw a.0.0 (last_input-outputs m xs h a.1)
 
 at_once-outputs : (m : ℕ) (xs h : History) → AreOutputs m xs → is_at_once m h ≡ true → is_at_once m (xs ++ h) ≡ true
 at_once-outputs m [] h a o = o
-at_once-outputs m (x ∷ xs) h a o = let same : (x.moment == m) ≡ true = eq-eqb x.moment m a.0.1 in rw (a.0.0, same) (at_once-outputs m xs h a.1 o)
+at_once-outputs m (x ∷ xs) h a o =
+    let same : (x.moment == m) ≡ true = eq-eqb x.moment m a.0.1 in rw (a.0.0, same) (at_once-outputs m xs h a.1 o)
 
 inputs-outputs : (m : ℕ) (xs h : History) → AreOutputs m xs → DrivenInputs h → DrivenInputs (xs ++ h)
 inputs-outputs m [] h a d = d
@@ -70,7 +112,8 @@ Lawful-drop (x ∷ xs) ys l = Lawful-drop xs ys l.1
 -- before the first input nothing is answered
 replies-none : (m : ℕ) (rs : History) → Lawful rs → AreReplies m rs → rs ≡ []
 replies-none m [] l a = refl
-replies-none m (r ∷ rs) l a = absurd (go rs (replies-none m rs l.1 a.1) r.event (in_order-of r.moment r.event rs l.0.ordered) a.0.0)
+replies-none m (r ∷ rs) l a =
+    absurd (go rs (replies-none m rs l.1 a.1) r.event (in_order-of r.moment r.event rs l.0.ordered) a.0.0)
   where
     go : (before : History) → before ≡ [] → (event : Event) → IsTrue (in_order event before) → is_reply event ≡ true → ⊥
     go [] e (Event.Reply reply) i q = cc
@@ -92,11 +135,13 @@ empty-append [] ys e = e
 empty-append (x ∷ xs) ys e = ap (λ zs. x ∷ zs) (empty-append xs ys e)
 
 -- an input finds the one before it served
-served-before : (old : Cored) (m : ℕ) (rs : History) → Rests old → old.last ≤ m → (old.last ≡ m → rs ≡ []) → AreReplies m rs → Lawful (rs ++ old.history) → rests (Some m) (rs ++ old.history) ≡ true
+served-before : (old : Cored) (m : ℕ) (rs : History) → Rests old → old.last ≤ m → (old.last ≡ m → rs ≡ []) →
+    AreReplies m rs → Lawful (rs ++ old.history) → rests (Some m) (rs ++ old.history) ≡ true
 served-before old m rs r later still a l = go r.rest
   where
     rest : AtRest old.last old.history → (old.last ≡ m) ⊎ (old.last < m) → rests (Some m) (rs ++ old.history) ≡ true
-    rest t (inl e) = ap (λ xs. rests (Some m) (xs ++ old.history)) (still e) ∙ rests-same old.last (Some m) old.history t
+    rest t (inl e) =
+        ap (λ xs. rests (Some m) (xs ++ old.history)) (still e) ∙ rests-same old.last (Some m) old.history t
     rest t (inr k) = rests-next old.last m rs old.history k a t
 
     either : (a b : ℕ) → a ≤ b → (a ≡ b) ⊎ (a < b)
@@ -113,8 +158,12 @@ served-before old m rs r later still a l = go r.rest
     go (inr t) = rest t (either old.last m later)
 
 -- a line that was entered and whose starts were made is served
-pub rests-served : (line : Happening) (old mid new : Cored) → Rests old → TakesLine line old mid → StartsAll mid new → Sound new → Rests new
-rests-served line old mid new r t s k = record { inputs = subst DrivenInputs (sym whole) driven; rest = inr (record { last = last_is; at_once = once; settled_now = k.settled_now; idle = s.idle }) }
+pub rests-served : (line : Happening) (old mid new : Cored) → Rests old → TakesLine line old mid → StartsAll mid new →
+    Sound new → Rests new
+rests-served line old mid new r t s k = record {
+  inputs = subst DrivenInputs (sym whole) driven;
+  rest = inr (record { last = last_is; at_once = once; settled_now = k.settled_now; idle = s.idle });
+}
   where
     is-line : is_input t.entry.event ≡ true
     is-line = given-is_input line (t.enters.advance ++ old.history) old.last _ t.entry t.is
@@ -129,7 +178,9 @@ rests-served line old mid new r t s k = record { inputs = subst DrivenInputs (sy
     outputs = outputs-replies t.entry.moment t.enters.replies t.enters.answered
 
     starts : AreOutputs t.entry.moment s.some.starts
-    starts = outputs-starts t.entry.moment s.some.starts (subst (λ n. AreStarts n s.some.starts) t.enters.last s.some.started)
+    starts =
+        outputs-starts t.entry.moment s.some.starts
+        (subst (λ n. AreStarts n s.some.starts) t.enters.last s.some.started)
 
     whole : new.history ≡ s.some.starts ++ (t.enters.replies ++ input ∷ lead)
     whole = s.some.history ∙ ap (λ (h : History). s.some.starts ++ h) t.enters.history
@@ -138,7 +189,9 @@ rests-served line old mid new r t s k = record { inputs = subst DrivenInputs (sy
     now = s.some.last ∙ t.enters.last
 
     lawful : Lawful lead
-    lawful = (Lawful-drop t.enters.replies (input ∷ lead) (Lawful-drop s.some.starts (t.enters.replies ++ input ∷ lead) (subst Lawful whole k.lawful))).1
+    lawful =
+        (Lawful-drop t.enters.replies (input ∷ lead)
+        (Lawful-drop s.some.starts (t.enters.replies ++ input ∷ lead) (subst Lawful whole k.lawful))).1
 
     served : IsTrue (rests_before input lead)
     served =
@@ -149,7 +202,8 @@ rests-served line old mid new r t s k = record { inputs = subst DrivenInputs (sy
     driven =
         inputs-outputs t.entry.moment s.some.starts (t.enters.replies ++ input ∷ lead) starts
         (inputs-outputs t.entry.moment t.enters.replies (input ∷ lead) outputs
-        (served, inputs-outputs t.entry.moment t.enters.advance old.history (outputs-replies t.entry.moment t.enters.advance t.enters.at_once) r.inputs))
+        (served, inputs-outputs t.entry.moment t.enters.advance old.history
+            (outputs-replies t.entry.moment t.enters.advance t.enters.at_once) r.inputs))
 
     last_here : last_input (input ∷ lead) ≡ Some t.entry.moment
     last_here = let is : is_input input.event ≡ true = is-line in rw is refl
@@ -181,28 +235,49 @@ driven-rests v r = (go r.rest, r.inputs)
     go (inr t) = rests-same v.last None v.history t
 
 -- and after one more advance
-pub driven-passed : (line : Happening) (full : Full) (old new : Cored) → Rests old → LacksRoom line old new full → Sound new → Driven new.history
-driven-passed line full old new r p k = (subst (λ h. rests None h ≡ true) (sym p.advances.history) (go r.rest), subst DrivenInputs (sym p.advances.history) driven)
+pub driven-passed : (line : Happening) (full : Full) (old new : Cored) → Rests old → LacksRoom line old new full →
+    Sound new → Driven new.history
+driven-passed line full old new r p k =
+    (subst (λ h. rests None h ≡ true) (sym p.advances.history) (go r.rest),
+    subst DrivenInputs (sym p.advances.history) driven)
   where
     driven : DrivenInputs (p.advances.advance ++ old.history)
-    driven = inputs-outputs p.entry.moment p.advances.advance old.history (outputs-replies p.entry.moment p.advances.advance p.advances.at_once) r.inputs
+    driven =
+        inputs-outputs p.entry.moment p.advances.advance old.history
+        (outputs-replies p.entry.moment p.advances.advance p.advances.at_once) r.inputs
 
-    rest : AtRest old.last old.history → (b : Bool) → (old.last == p.entry.moment) ≡ b → rests None (p.advances.advance ++ old.history) ≡ true
-    rest t true e = ap (λ (xs : History). rests None (xs ++ old.history)) (p.advances.still (eqb-true old.last p.entry.moment e)) ∙ rests-same old.last None old.history t
+    rest : AtRest old.last old.history → (b : Bool) → (old.last == p.entry.moment) ≡ b →
+        rests None (p.advances.advance ++ old.history) ≡ true
+    rest t true e =
+        ap (λ (xs : History). rests None (xs ++ old.history)) (p.advances.still (eqb-true old.last p.entry.moment e))
+        ∙ rests-same old.last None old.history t
     rest t false e =
         let other : old.last ≡ p.entry.moment → ⊥ = false-eqb old.last p.entry.moment (sym e) in
-        rests-end old.last p.entry.moment p.advances.advance old.history (omega (arith, p.later, other)) p.advances.at_once t
+        rests-end old.last p.entry.moment p.advances.advance old.history
+            (omega (arith, p.later, other)) p.advances.at_once t
 
     go : (old.history ≡ []) ⊎ AtRest old.last old.history → rests None (p.advances.advance ++ old.history) ≡ true
     go (inl e) =
         let none : p.advances.advance ≡ [] =
-        replies-none p.entry.moment p.advances.advance (subst Lawful (empty-append p.advances.advance old.history e) (subst Lawful p.advances.history k.lawful)) p.advances.at_once in
+        replies-none p.entry.moment p.advances.advance
+            (subst Lawful (empty-append p.advances.advance old.history e)
+            (subst Lawful p.advances.history k.lawful)) p.advances.at_once in
         ap (rests None) (empty-append p.advances.advance old.history e ∙ none)
     go (inr t) = rest t (old.last == p.entry.moment) refl
 
 -- the entry of a start
 abbrev start_of : Cored → Started → Entry
-start_of v s = record { moment = v.last; event = Event.Start (record { run = s.run; req = s.req; slot = s.slot; reg = s.reg; kind = s.kind; attempt = s.attempt }) }
+start_of v s = record {
+  moment = v.last;
+  event = Event.Start (record {
+    run = s.run;
+    req = s.req;
+    slot = s.slot;
+    reg = s.reg;
+    kind = s.kind;
+    attempt = s.attempt;
+  });
+}
 
 -- no start yet, and one more
 pub starts-none : (v : Cored) → StartsSome v v
@@ -218,9 +293,11 @@ starts-more old mid new s a b = record {
 }
 
 -- what a turn that served a line, or found no room for it, leaves
-pub turns-served : (r : Option Outcome) (line : Happening) (old new : Cored) → ServesLine line old new → Sound new → Turns r old new
+pub turns-served : (r : Option Outcome) (line : Happening) (old new : Cored) → ServesLine line old new → Sound new →
+    Turns r old new
 turns-served None line old new s k = λ r. rests-served line old s.mid new r s.takes s.starts k
-turns-served (Some outcome) line old new s k = λ r. driven-rests new (rests-served line old s.mid new r s.takes s.starts k)
+turns-served (Some outcome) line old new s k =
+    λ r. driven-rests new (rests-served line old s.mid new r s.takes s.starts k)
 
 -- a journal that is handed back
 pub served-driven : (v : Cored) → Sound v → Driven v.history → IsServed v.history
@@ -231,69 +308,78 @@ pub turns-still : (r : Option Outcome) (old new : Cored) → new ≡ old → Tur
 turns-still None old new e = λ rests. subst Rests (sym e) rests
 turns-still (Some outcome) old new e = λ rests. subst (λ (v : Cored). Driven v.history) (sym e) (driven-rests old rests)
 
-full-cored : (v : Cored) (j : Journaled) (full : Full) → j.history ≡ v.history → j.limit ≡ v.limit → IsFull v full.need full → IsFull (cored j) full.need full
+full-cored : (v : Cored) (j : Journaled) (full : Full) → j.history ≡ v.history → j.limit ≡ v.limit →
+    IsFull v full.need full → IsFull (cored j) full.need full
 full-cored v j full e l f =
-    let moved : (h : History) (limit : ℕ) → h ≡ v.history → limit ≡ v.limit → IsFull v full.need full → IsFull (record { history = h; last = last_moment h; limit = limit }) full.need full =
+    let moved : (h : History) (limit : ℕ) → h ≡ v.history → limit ≡ v.limit → IsFull v full.need full →
+        IsFull (record { history = h; last = last_moment h; limit = limit }) full.need full =
     λ h limit e l f. record {
-      says = f.says ∙ ap₂ (λ (x : History) (n : ℕ). record { entries = length x; owed = owed x; need = full.need; limit = n }) (sym e) (sym l);
-      above = subst (λ (x : History). limit < length x + owed x + full.need) (sym e) (subst (λ n. n < length v.history + owed v.history + full.need) (sym l) f.above);
+      says =
+          f.says ∙ ap₂ (λ (x : History) (n : ℕ).
+          record { entries = length x; owed = owed x; need = full.need; limit = n }) (sym e) (sym l);
+      above =
+          subst (λ (x : History). limit < length x + owed x + full.need) (sym e)
+          (subst (λ n. n < length v.history + owed v.history + full.need) (sym l) f.above);
     } in
     moved j.history j.limit e l f
 
 -- what ended a turn ended the session
-pub cause-of : (o : Outcome) (left : Option (List Happening)) (reads reads0 reads' writes writes0 writes' : ℕ) (v : Cored) (j : Journaled) (made allowed : ℕ) →
-    reads ≤ reads0 → writes ≤ writes0 → j.history ≡ v.history → j.limit ≡ v.limit →
-    EndsBy o left reads0 reads' writes0 writes' v → HasCause o left reads reads' writes writes' j made allowed
-cause-of Outcome.Finished left reads reads0 reads' writes writes0 writes' v j made allowed r w h l e = e
-cause-of Outcome.ReadFault left reads reads0 reads' writes writes0 writes' v j made allowed r w h l e = then-rose reads reads0 reads' r e
-cause-of Outcome.WriteFault left reads reads0 reads' writes writes0 writes' v j made allowed r w h l e = then-rose writes writes0 writes' w e
-cause-of (Outcome.JournalFull full) left reads reads0 reads' writes writes0 writes' v j made allowed r w h l e = full-cored v j full h l e
-cause-of Outcome.Budget left reads reads0 reads' writes writes0 writes' v j made allowed r w h l e = absurd e
-cause-of Outcome.Usage left reads reads0 reads' writes writes0 writes' v j made allowed r w h l e = e
-cause-of Outcome.NoMemory left reads reads0 reads' writes writes0 writes' v j made allowed r w h l e = e
-cause-of (Outcome.Unlawful index rule) left reads reads0 reads' writes writes0 writes' v j made allowed r w h l e = e
-cause-of (Outcome.BadEntry line) left reads reads0 reads' writes writes0 writes' v j made allowed r w h l e = e
+pub cause-of : (o : Outcome) (source : Change SourceTold) (sink : Change SinkTold) (from : SourceTold)
+    (start : SinkTold) (polls : PollCounts) (v : Cored) (j : Journaled) → from.faults ≤ source.before.faults →
+    start.faults ≤ sink.before.faults → j.history ≡ v.history → j.limit ≡ v.limit → EndsBy o source sink v →
+    HasCause o (change from source.after) (change start sink.after) polls j
+cause-of Outcome.Finished source sink from start polls v j r w h l e = e
+cause-of Outcome.ReadFault source sink from start polls v j r w h l e =
+    then-rose from.faults source.before.faults source.after.faults r e
+cause-of Outcome.WriteFault source sink from start polls v j r w h l e =
+    then-rose start.faults sink.before.faults sink.after.faults w e
+cause-of (Outcome.JournalFull full) source sink from start polls v j r w h l e = full-cored v j full h l e
+cause-of Outcome.Budget source sink from start polls v j r w h l e = absurd e
+cause-of Outcome.Usage source sink from start polls v j r w h l e = e
+cause-of Outcome.NoMemory source sink from start polls v j r w h l e = e
+cause-of (Outcome.Unlawful index rule) source sink from start polls v j r w h l e = e
+cause-of (Outcome.BadEntry line) source sink from start polls v j r w h l e = e
 
 -- and ends it still where the last flush worked, or failed after another cause
-cause-later : (o : Outcome) (left : Option (List Happening)) (reads reads' writes writes0 writes' : ℕ) (j : Journaled)
-    (made allowed : ℕ) → writes0 ≤ writes' → HasCause o left reads reads' writes writes0 j made allowed →
-    HasCause o left reads reads' writes writes' j made allowed
-cause-later Outcome.WriteFault left reads reads' writes writes0 writes' j made allowed w e =
-    rose-then writes writes0 writes' e w
-cause-later Outcome.Finished left reads reads' writes writes0 writes' j made allowed w e = e
-cause-later Outcome.ReadFault left reads reads' writes writes0 writes' j made allowed w e = e
-cause-later Outcome.Budget left reads reads' writes writes0 writes' j made allowed w e = e
-cause-later (Outcome.JournalFull full) left reads reads' writes writes0 writes' j made allowed w e = e
-cause-later Outcome.Usage left reads reads' writes writes0 writes' j made allowed w e = e
-cause-later Outcome.NoMemory left reads reads' writes writes0 writes' j made allowed w e = e
-cause-later (Outcome.Unlawful index rule) left reads reads' writes writes0 writes' j made allowed w e = e
-cause-later (Outcome.BadEntry line) left reads reads' writes writes0 writes' j made allowed w e = e
+cause-later : (o : Outcome) (source : Change SourceTold) (start before after : SinkTold) (polls : PollCounts)
+    (j : Journaled) → before.faults ≤ after.faults → HasCause o source (change start before) polls j →
+    HasCause o source (change start after) polls j
+cause-later Outcome.WriteFault source start before after polls j w e =
+    rose-then start.faults before.faults after.faults e w
+cause-later Outcome.Finished source start before after polls j w e = e
+cause-later Outcome.ReadFault source start before after polls j w e = e
+cause-later Outcome.Budget source start before after polls j w e = e
+cause-later (Outcome.JournalFull full) source start before after polls j w e = e
+cause-later Outcome.Usage source start before after polls j w e = e
+cause-later Outcome.NoMemory source start before after polls j w e = e
+cause-later (Outcome.Unlawful index rule) source start before after polls j w e = e
+cause-later (Outcome.BadEntry line) source start before after polls j w e = e
 
-cause-failed : (o : Outcome) (left : Option (List Happening)) (reads reads' writes writes0 writes' : ℕ) (j : Journaled)
-    (made allowed : ℕ) → writes ≤ writes0 → writes0 ≤ writes' → Rose writes0 writes' →
-    HasCause o left reads reads' writes writes0 j made allowed →
-    HasCause (after_failed_flush o) left reads reads' writes writes' j made allowed
-cause-failed Outcome.Finished left reads reads' writes writes0 writes' j made allowed w w' r e =
-    then-rose writes writes0 writes' w r
-cause-failed Outcome.Budget left reads reads' writes writes0 writes' j made allowed w w' r e =
-    then-rose writes writes0 writes' w r
-cause-failed Outcome.WriteFault left reads reads' writes writes0 writes' j made allowed w w' r e =
-    rose-then writes writes0 writes' e w'
-cause-failed Outcome.ReadFault left reads reads' writes writes0 writes' j made allowed w w' r e = e
-cause-failed (Outcome.JournalFull full) left reads reads' writes writes0 writes' j made allowed w w' r e = e
-cause-failed Outcome.Usage left reads reads' writes writes0 writes' j made allowed w w' r e = e
-cause-failed Outcome.NoMemory left reads reads' writes writes0 writes' j made allowed w w' r e = e
-cause-failed (Outcome.Unlawful index rule) left reads reads' writes writes0 writes' j made allowed w w' r e = e
-cause-failed (Outcome.BadEntry line) left reads reads' writes writes0 writes' j made allowed w w' r e = e
+cause-failed : (o : Outcome) (source : Change SourceTold) (start before after : SinkTold) (polls : PollCounts)
+    (j : Journaled) → start.faults ≤ before.faults → before.faults ≤ after.faults →
+    SinkFaulted (change before after) → HasCause o source (change start before) polls j →
+    HasCause (after_failed_flush o) source (change start after) polls j
+cause-failed Outcome.Finished source start before after polls j w k r e =
+    then-rose start.faults before.faults after.faults w r
+cause-failed Outcome.Budget source start before after polls j w k r e =
+    then-rose start.faults before.faults after.faults w r
+cause-failed Outcome.WriteFault source start before after polls j w k r e =
+    rose-then start.faults before.faults after.faults e k
+cause-failed Outcome.ReadFault source start before after polls j w k r e = e
+cause-failed (Outcome.JournalFull full) source start before after polls j w k r e = e
+cause-failed Outcome.Usage source start before after polls j w k r e = e
+cause-failed Outcome.NoMemory source start before after polls j w k r e = e
+cause-failed (Outcome.Unlawful index rule) source start before after polls j w k r e = e
+cause-failed (Outcome.BadEntry line) source start before after polls j w k r e = e
 
 -- why a session ended, after its last flush
-pub cause-closed : (o closed : Outcome) (left : Option (List Happening)) (reads reads' writes writes0 writes' : ℕ)
-    (j : Journaled) (made allowed : ℕ) → writes ≤ writes0 → writes0 ≤ writes' → Closes o closed writes0 writes' →
-    HasCause o left reads reads' writes writes0 j made allowed →
-    HasCause closed left reads reads' writes writes' j made allowed
-cause-closed o closed left reads reads' writes writes0 writes' j made allowed w w' k e = elim k [
-  | inl same ↦ subst (λ x. HasCause x left reads reads' writes writes' j made allowed) (sym same)
-      (cause-later o left reads reads' writes writes0 writes' j made allowed w' e)
-  | inr failed ↦ subst (λ x. HasCause x left reads reads' writes writes' j made allowed) (sym failed.0)
-      (cause-failed o left reads reads' writes writes0 writes' j made allowed w w' failed.1 e)
+pub cause-closed : (o closed : Outcome) (source : Change SourceTold) (start before after : SinkTold)
+    (polls : PollCounts) (j : Journaled) → start.faults ≤ before.faults → before.faults ≤ after.faults →
+    Closes o closed (change before after) → HasCause o source (change start before) polls j →
+    HasCause closed source (change start after) polls j
+cause-closed o closed source start before after polls j w w' k e = elim k [
+  | inl same ↦ subst (λ x. HasCause x source (change start after) polls j) (sym same)
+      (cause-later o source start before after polls j w' e)
+  | inr failed ↦ subst (λ x. HasCause x source (change start after) polls j) (sym failed.0)
+      (cause-failed o source start before after polls j w w' failed.1 e)
 ]

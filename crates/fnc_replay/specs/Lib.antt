@@ -1,3 +1,4 @@
+pub mod SourceAndSink
 pub mod Rests
 pub mod Session
 pub mod Heard

@@ -1,5 +1,5 @@
 -- What a session is worth at its end: what it wrote, and why it ended.
-use Rattle.std.specs.Prelude.{ℕ, List, [], ◌++◌, ◌≡◌, ◌⊎◌, true, Option, Some, None}
+use Rattle.std.specs.Prelude.{ℕ, List, [], ◌++◌, ◌≡◌, ◌≤◌, ◌⊎◌, true, Option, Some, None}
 use Rattle.fnc_journal.specs.declared.outcome.Outcome.{Outcome}
 use Rattle.fnc_journal.specs.History.{History, Journaled}
 use Rattle.fnc_journal.specs.Line.{answers_text, end_line}
@@ -12,33 +12,46 @@ use Rattle.fnc_outside.specs.Told.{Gains}
 use Rattle.fnc_outside.specs.Writes.{HoldsPart}
 use Rattle.fnc_core.specs.Cored.{Cored, IsFull}
 use Rattle.fnc_replay.specs.Rests.{Rests}
+use Rattle.fnc_replay.specs.SourceAndSink.{Change, SinkTold, SourceTold}
+
+-- the text is held, sent on or not
+abbrev pub Holds : Change SinkTold → List ℕ → Type 0
+Holds sink text = Gains sink.before.held sink.after.held text
 
 -- all of the text is held and was sent on
-abbrev pub SentOn : Option (List ℕ) → Option (List ℕ) → ℕ → List ℕ → Type 0
-SentOn before after unsent text = Gains before after text × (unsent ≡ 0)
+abbrev pub SentOn : Change SinkTold → List ℕ → Type 0
+SentOn sink text = Holds sink text × (sink.after.unsent ≡ 0)
+
+-- of what was held before and of the text a part from the front is held
+abbrev pub HoldsFront : Change SinkTold → List ℕ → Type 0
+HoldsFront sink text = HoldsPart sink.before.held sink.after.held text
+
+-- a write or a flush failed
+abbrev pub SinkFaulted : Change SinkTold → Type 0
+SinkFaulted sink = Rose sink.before.faults sink.after.faults
 
 -- What the sink gained, where it tells what it holds, and how much of it is still to be sent on. A session that
 -- finished wrote the text and the end line; one whose write or flush failed left a part from the front of these; any
 -- other the text alone, or a part from the front of it where a write or a flush failed. What did not fail was sent on.
-abbrev pub Wrote : Outcome → Option (List ℕ) → Option (List ℕ) → ℕ → ℕ → ℕ → History → Type 0
-Wrote Outcome.Finished before after writes writes' unsent h = SentOn before after unsent (answers_text h ++ end_line h)
-Wrote Outcome.WriteFault before after writes writes' unsent h = HoldsPart before after (answers_text h ++ end_line h)
-Wrote Outcome.Budget before after writes writes' unsent h = SentOn before after unsent (answers_text h)
-Wrote Outcome.ReadFault before after writes writes' unsent h =
-    SentOn before after unsent (answers_text h) ⊎ (Rose writes writes' × HoldsPart before after (answers_text h))
-Wrote (Outcome.JournalFull full) before after writes writes' unsent h =
-    SentOn before after unsent (answers_text h) ⊎ (Rose writes writes' × HoldsPart before after (answers_text h))
-Wrote _ before after writes writes' unsent h = ⊥
+abbrev pub Wrote : Outcome → Change SinkTold → History → Type 0
+Wrote Outcome.Finished sink h = SentOn sink (answers_text h ++ end_line h)
+Wrote Outcome.WriteFault sink h = HoldsFront sink (answers_text h ++ end_line h)
+Wrote Outcome.Budget sink h = SentOn sink (answers_text h)
+Wrote Outcome.ReadFault sink h =
+    SentOn sink (answers_text h) ⊎ (SinkFaulted sink × HoldsFront sink (answers_text h))
+Wrote (Outcome.JournalFull full) sink h =
+    SentOn sink (answers_text h) ⊎ (SinkFaulted sink × HoldsFront sink (answers_text h))
+Wrote _ sink h = ⊥
 
 -- the same before the last flush, where what was written may still wait
-abbrev pub Printed : Outcome → Option (List ℕ) → Option (List ℕ) → ℕ → ℕ → History → Type 0
-Printed Outcome.Finished before after writes writes' h = Gains before after (answers_text h ++ end_line h)
-Printed Outcome.WriteFault before after writes writes' h = HoldsPart before after (answers_text h ++ end_line h)
-Printed Outcome.Budget before after writes writes' h = Gains before after (answers_text h)
-Printed Outcome.ReadFault before after writes writes' h = Gains before after (answers_text h)
-Printed (Outcome.JournalFull full) before after writes writes' h =
-    Gains before after (answers_text h) ⊎ (Rose writes writes' × HoldsPart before after (answers_text h))
-Printed _ before after writes writes' h = ⊥
+abbrev pub Printed : Outcome → Change SinkTold → History → Type 0
+Printed Outcome.Finished sink h = Holds sink (answers_text h ++ end_line h)
+Printed Outcome.WriteFault sink h = HoldsFront sink (answers_text h ++ end_line h)
+Printed Outcome.Budget sink h = Holds sink (answers_text h)
+Printed Outcome.ReadFault sink h = Holds sink (answers_text h)
+Printed (Outcome.JournalFull full) sink h =
+    Holds sink (answers_text h) ⊎ (SinkFaulted sink × HoldsFront sink (answers_text h))
+Printed _ sink h = ⊥
 
 -- The outcome where the last flush fails. A session that nothing had ended before ends by that; any other keeps its
 -- first cause.
@@ -48,22 +61,25 @@ after_failed_flush Outcome.Budget = Outcome.WriteFault
 after_failed_flush outcome = outcome
 
 -- what the last flush makes of an outcome
-abbrev pub Closes : Outcome → Outcome → ℕ → ℕ → Type 0
-Closes outcome closed writes writes' =
-    (closed ≡ outcome) ⊎ ((closed ≡ after_failed_flush outcome) × Rose writes writes')
+abbrev pub Closes : Outcome → Outcome → Change SinkTold → Type 0
+Closes outcome closed sink = (closed ≡ outcome) ⊎ ((closed ≡ after_failed_flush outcome) × SinkFaulted sink)
 
 -- nothing is left, where the source tells what is
 abbrev pub IsOver : Option (List Happening) → Type 0
 IsOver None = Unit {0}
 IsOver (Some events) = events ≡ []
 
+-- a read failed
+abbrev pub SourceFaulted : Change SourceTold → Type 0
+SourceFaulted source = Rose source.before.faults source.after.faults
+
 -- Why a session ended. The journal is the one that it hands back, of which a full one is said to be full.
-abbrev pub EndsBy : Outcome → Option (List Happening) → ℕ → ℕ → ℕ → ℕ → Cored → Type 0
-EndsBy Outcome.Finished left reads reads' writes writes' v = IsOver left
-EndsBy Outcome.ReadFault left reads reads' writes writes' v = Rose reads reads'
-EndsBy Outcome.WriteFault left reads reads' writes writes' v = Rose writes writes'
-EndsBy (Outcome.JournalFull full) left reads reads' writes writes' v = IsFull v full.need full
-EndsBy _ left reads reads' writes writes' v = ⊥
+abbrev pub EndsBy : Outcome → Change SourceTold → Change SinkTold → Cored → Type 0
+EndsBy Outcome.Finished source sink v = IsOver source.after.left
+EndsBy Outcome.ReadFault source sink v = SourceFaulted source
+EndsBy Outcome.WriteFault source sink v = SinkFaulted sink
+EndsBy (Outcome.JournalFull full) source sink v = IsFull v full.need full
+EndsBy _ source sink v = ⊥
 
 -- a journal that is handed back
 pub record IsServed (h : History) : Type 0 where
@@ -73,20 +89,24 @@ pub record IsServed (h : History) : Type 0 where
   pub driven : Driven h
 
 -- what ends a session that reads no more, or a write that fails
-abbrev pub EndsWriting : Outcome → ℕ → ℕ → Type 0
-EndsWriting Outcome.Finished writes writes' = Unit {0}
-EndsWriting Outcome.WriteFault writes writes' = Rose writes writes'
-EndsWriting _ writes writes' = ⊥
+abbrev pub EndsWriting : Outcome → Change SinkTold → Type 0
+EndsWriting Outcome.Finished sink = Unit {0}
+EndsWriting Outcome.WriteFault sink = SinkFaulted sink
+EndsWriting _ sink = ⊥
+
+-- the text so far is held, and the count of faults did not fall
+abbrev pub HoldsSoFar : Change SinkTold → History → Type 0
+HoldsSoFar sink h = Holds sink (answers_text h) × (sink.before.faults ≤ sink.after.faults)
 
 -- what the sink gained so far, or at the end before the last flush
-abbrev pub Puts : Option Outcome → Option (List ℕ) → Option (List ℕ) → ℕ → ℕ → History → Type 0
-Puts None before after writes writes' h = Gains before after (answers_text h)
-Puts (Some outcome) before after writes writes' h = Printed outcome before after writes writes' h
+abbrev pub Puts : Option Outcome → Change SinkTold → History → Type 0
+Puts None sink h = HoldsSoFar sink h
+Puts (Some outcome) sink h = Printed outcome sink h
 
 -- a write that fails
-abbrev pub IsWriteFault : Outcome → ℕ → ℕ → Type 0
-IsWriteFault Outcome.WriteFault writes writes' = Rose writes writes'
-IsWriteFault _ writes writes' = ⊥
+abbrev pub IsWriteFault : Outcome → Change SinkTold → Type 0
+IsWriteFault Outcome.WriteFault sink = SinkFaulted sink
+IsWriteFault _ sink = ⊥
 
 -- a session that rests goes on resting, and one that ends has a Driven journal
 abbrev pub Turns : Option Outcome → Cored → Cored → Type 0
@@ -97,7 +117,12 @@ Turns (Some outcome) old new = Rests old → Driven new.history
 abbrev pub cored : Journaled → Cored
 cored j = record { history = j.history; last = last_moment j.history; limit = j.limit }
 
--- Why a session ended, with the polls that were made and those that were allowed.
-abbrev pub HasCause : Outcome → Option (List Happening) → ℕ → ℕ → ℕ → ℕ → Journaled → ℕ → ℕ → Type 0
-HasCause Outcome.Budget left reads reads' writes writes' j made allowed = made ≡ allowed
-HasCause outcome left reads reads' writes writes' j made allowed = EndsBy outcome left reads reads' writes writes' (cored j)
+-- the polls that a session made, and those that it was allowed
+pub record PollCounts : Type 0 where
+  pub made : ℕ
+  pub allowed : ℕ
+
+-- Why a session ended, which may be that the polls that it was allowed were made.
+abbrev pub HasCause : Outcome → Change SourceTold → Change SinkTold → PollCounts → Journaled → Type 0
+HasCause Outcome.Budget source sink polls j = polls.made ≡ polls.allowed
+HasCause outcome source sink polls j = EndsBy outcome source sink (cored j)

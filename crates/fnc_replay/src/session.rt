@@ -3,16 +3,15 @@
 ghost use Rattle.std.specs.Prelude.{◌≡◌, ◌≤◌, ◌<◌, ◌^◌, [], IfSome, IfNone};
 ghost use Rattle.fnc_outside.specs.Told.{Gains};
 ghost use Rattle.fnc_replay.specs.Session.{Wrote, HasCause, IsServed, cored};
+ghost use Rattle.fnc_replay.specs.SourceAndSink.{change, source_told, sink_told};
 ghost use Rattle.fnc_replay.specs.Heard.{Heard};
 
 use crate::turn::{close, turn};
 use fnc_desk::Desk;
+use fnc_journal::limits::{GREATEST_JOURNAL, LEAST_JOURNAL, LONGEST_LINE};
 use fnc_journal::{Journal, Outcome};
 use fnc_outside::{LineBuf, Sink, Source};
 use std::alloc::Global;
-
-/// The longest line of a session, in bytes.
-const LONGEST_LINE: u32 = 8_192;
 
 /// How a session ended: its outcome, its journal, the polls that were made, and the source and the sink.
 /// There is no journal exactly where memory was refused at the opening.
@@ -36,27 +35,30 @@ pub fn replay<S: Source + Drop, K: Sink + Drop>(
     limit: u32,
     polls: u64,
 ) -> Replayed<S, K>
-    requires least { 16_384 ≤ limit }
-    requires most { limit ≤ 1_048_576 }
+    requires least { LEAST_JOURNAL ≤ limit }
+    requires most { limit ≤ GREATEST_JOURNAL }
     requires few { polls < 2 ^ 32 }
     ensures none { IfNone result.journal (result.outcome ≡ Outcome.NoMemory) }
     ensures nothing_read { IfNone result.journal (Gains (S.given source) (S.given result.source) []) }
     ensures nothing_written { IfNone result.journal (Gains (K.held sink) (K.held result.sink) []) }
+    ensures unpolled { IfNone result.journal (result.polls ≡ 0) }
     ensures served { IfSome result.journal (λ j. IsServed j.history) }
     ensures limit { IfSome result.journal (λ j. j.limit ≡ limit) }
-    ensures text { IfSome result.journal (λ j.
-        Wrote result.outcome (K.held sink) (K.held result.sink) (K.faults sink) (K.faults result.sink)
-        (K.unsent result.sink) j.history) }
-    ensures cause { IfSome result.journal (λ j.
-        HasCause result.outcome (S.left result.source) (S.faults source) (S.faults result.source)
-        (K.faults sink) (K.faults result.sink) j result.polls polls) }
+    ensures text { let of_sink = sink_told K.held K.unsent K.faults in IfSome result.journal (λ j.
+        Wrote result.outcome (change (of_sink sink) (of_sink result.sink)) j.history) }
+    ensures cause {
+        let of_source = source_told S.given S.left S.faults in
+        let of_sink = sink_told K.held K.unsent K.faults in
+        IfSome result.journal (λ j.
+        HasCause result.outcome (change (of_source source) (of_source result.source))
+        (change (of_sink sink) (of_sink result.sink)) (record { made = result.polls; allowed = polls }) j) }
     ensures heard { IfSome result.journal (λ j.
         Heard result.outcome (S.given source) (S.given result.source) result.polls (cored j)) }
     ensures polls { result.polls ≤ polls }
 {
     let (Ok(mut desk), Ok(mut line)) = (
         Desk::with_limit(alloc, limit),
-        LineBuf::with_size(alloc, LONGEST_LINE),
+        LineBuf::with_size(alloc, LONGEST_LINE as u32),
     ) else {
         return Replayed {
             outcome: Outcome::NoMemory,

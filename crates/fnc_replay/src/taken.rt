@@ -3,6 +3,7 @@
 ghost use Rattle.std.specs.Prelude.{◌≤◌, ◌≡◌, ℕ, []};
 ghost use Rattle.fnc_outside.specs.Events.{Happening};
 ghost use Rattle.fnc_replay.specs.Polls.{Serves, Takes};
+ghost use Rattle.fnc_replay.specs.SourceAndSink.{change, source_told};
 
 use crate::starts::start_all;
 use fnc_desk::Desk;
@@ -49,7 +50,9 @@ fn serve_long(desk: &mut Desk) -> Taken
 /// Polls the source once, and serves what it gave.
 pub(crate) fn take<S: Source>(source: &mut S, desk: &mut Desk, line: &mut LineBuf) -> Taken
     requires { line.old.bytes ≡ [] }
-    ensures takes { Takes result desk.old desk.new (S.given source.old) (S.given source.new) (S.left source.new) (S.faults source.old) (S.faults source.new) }
+    ensures takes {
+        let of_source = source_told S.given S.left S.faults in
+        Takes result (change (of_source source.old) (of_source source.new)) desk.old desk.new }
     ensures reads { S.faults source.old ≤ S.faults source.new }
     ensures empty { line.new.bytes ≡ [] }
 {

@@ -3,21 +3,21 @@
 ghost use Rattle.std.specs.Prelude.{◌≡◌, ◌≤◌, ◌+◌, [], ℕ, List, Option, length, IfSome, IfNone};
 ghost use Rattle.fnc_journal.specs.History.{History};
 ghost use Rattle.fnc_journal.specs.Lawful.{Lawful};
-ghost use Rattle.fnc_journal.specs.Line.{answers_text};
 ghost use Rattle.fnc_journal.specs.Prefix.{prefix};
 ghost use Rattle.fnc_outside.specs.Events.{Happening};
-ghost use Rattle.fnc_outside.specs.Told.{Gains};
 ghost use Rattle.fnc_replay.specs.Session.{
   Closes,
   Printed,
   Wrote,
   EndsBy,
   EndsWriting,
+  HoldsSoFar,
   IsWriteFault,
   Puts,
   Turns,
   after_failed_flush,
 };
+ghost use Rattle.fnc_replay.specs.SourceAndSink.{SinkTold, change, sink_told, source_told};
 ghost use Rattle.fnc_replay.specs.Heard.{HeardSoFar, HearsOn};
 
 use crate::taken::{Taken, take};
@@ -28,9 +28,13 @@ use fnc_outside::{LineBuf, Sink, Source};
 /// Sends on all that was written, before a read that may wait. None where the session goes on.
 fn send_on<K: Sink>(sink: &mut K) -> Option<Outcome>
     ensures sent { IfNone result (K.unsent sink.new ≡ 0) }
-    ensures text { (start : Option (List ℕ)) (h : History) → Gains start (K.held sink.old) (answers_text h)
-        → Puts result start (K.held sink.new) (K.faults sink.old) (K.faults sink.new) h }
-    ensures cause { IfSome result (λ o. IsWriteFault o (K.faults sink.old) (K.faults sink.new)) }
+    ensures text {
+        let of_sink = sink_told K.held K.unsent K.faults in
+        (start : SinkTold) (h : History) → HoldsSoFar (change start (of_sink sink.old)) h
+        → Puts result (change start (of_sink sink.new)) h }
+    ensures cause {
+        let of_sink = sink_told K.held K.unsent K.faults in
+        IfSome result (λ o. IsWriteFault o (change (of_sink sink.old) (of_sink sink.new))) }
     ensures writes { K.faults sink.old ≤ K.faults sink.new }
 {
     match sink.flush() {
@@ -42,9 +46,13 @@ fn send_on<K: Sink>(sink: &mut K) -> Option<Outcome>
 /// Writes the end line.
 fn finish<K: Sink>(journal: &Journal, sink: &mut K) -> Outcome
     requires { Lawful journal.now.history }
-    ensures text { (start : Option (List ℕ)) → Gains start (K.held sink.old) (answers_text journal.now.history)
-        → Printed result start (K.held sink.new) (K.faults sink.old) (K.faults sink.new) journal.now.history }
-    ensures cause { EndsWriting result (K.faults sink.old) (K.faults sink.new) }
+    ensures text {
+        let of_sink = sink_told K.held K.unsent K.faults in
+        (start : SinkTold) → HoldsSoFar (change start (of_sink sink.old)) journal.now.history
+        → Printed result (change start (of_sink sink.new)) journal.now.history }
+    ensures cause {
+        let of_sink = sink_told K.held K.unsent K.faults in
+        EndsWriting result (change (of_sink sink.old) (of_sink sink.new)) }
     ensures writes { K.faults sink.old ≤ K.faults sink.new }
 {
     match print_end(journal, sink) {
@@ -57,9 +65,13 @@ fn finish<K: Sink>(journal: &Journal, sink: &mut K) -> Outcome
 fn write_on<K: Sink>(journal: &Journal, from: u32, sink: &mut K) -> Option<Outcome>
     requires lawful { Lawful journal.now.history }
     requires within { from ≤ length journal.now.history }
-    ensures text { (start : Option (List ℕ)) → Gains start (K.held sink.old) (answers_text (prefix from journal.now.history))
-        → Puts result start (K.held sink.new) (K.faults sink.old) (K.faults sink.new) journal.now.history }
-    ensures cause { IfSome result (λ o. IsWriteFault o (K.faults sink.old) (K.faults sink.new)) }
+    ensures text {
+        let of_sink = sink_told K.held K.unsent K.faults in
+        (start : SinkTold) → HoldsSoFar (change start (of_sink sink.old)) (prefix from journal.now.history)
+        → Puts result (change start (of_sink sink.new)) journal.now.history }
+    ensures cause {
+        let of_sink = sink_told K.held K.unsent K.faults in
+        IfSome result (λ o. IsWriteFault o (change (of_sink sink.old) (of_sink sink.new))) }
     ensures writes { K.faults sink.old ≤ K.faults sink.new }
 {
     match print_from(journal, from, sink) {
@@ -72,8 +84,10 @@ fn write_on<K: Sink>(journal: &Journal, from: u32, sink: &mut K) -> Option<Outco
 fn write_full<K: Sink>(journal: &Journal, from: u32, sink: &mut K, full: Full) -> Outcome
     requires lawful { Lawful journal.now.history }
     requires within { from ≤ length journal.now.history }
-    ensures text { (start : Option (List ℕ)) → Gains start (K.held sink.old) (answers_text (prefix from journal.now.history))
-        → Printed result start (K.held sink.new) (K.faults sink.old) (K.faults sink.new) journal.now.history }
+    ensures text {
+        let of_sink = sink_told K.held K.unsent K.faults in
+        (start : SinkTold) → HoldsSoFar (change start (of_sink sink.old)) (prefix from journal.now.history)
+        → Printed result (change start (of_sink sink.new)) journal.now.history }
     ensures outcome { result ≡ Outcome.JournalFull full }
     ensures writes { K.faults sink.old ≤ K.faults sink.new }
 {
@@ -95,10 +109,13 @@ fn after_failed_flush(outcome: Outcome) -> Outcome
 
 /// Sends on all that was written, before the outcome.
 pub(crate) fn close<K: Sink>(sink: &mut K, outcome: Outcome) -> Outcome
-    ensures text { (start : Option (List ℕ)) (writes : ℕ) (h : History) → writes ≤ K.faults sink.old
-        → Printed outcome start (K.held sink.old) writes (K.faults sink.old) h
-        → Wrote result start (K.held sink.new) writes (K.faults sink.new) (K.unsent sink.new) h }
-    ensures closes { Closes outcome result (K.faults sink.old) (K.faults sink.new) }
+    ensures text {
+        let of_sink = sink_told K.held K.unsent K.faults in
+        (start : SinkTold) (h : History) → start.faults ≤ K.faults sink.old
+        → Printed outcome (change start (of_sink sink.old)) h → Wrote result (change start (of_sink sink.new)) h }
+    ensures closes {
+        let of_sink = sink_told K.held K.unsent K.faults in
+        Closes outcome result (change (of_sink sink.old) (of_sink sink.new)) }
     ensures writes { K.faults sink.old ≤ K.faults sink.new }
 {
     match sink.flush() {
@@ -116,11 +133,16 @@ pub(crate) fn turn<S: Source, K: Sink>(
     line: &mut LineBuf,
 ) -> Option<Outcome>
     requires { line.old.bytes ≡ [] }
-    ensures text { (start : Option (List ℕ)) → Gains start (K.held sink.old) (answers_text desk.old.history)
-        → Puts result start (K.held sink.new) (K.faults sink.old) (K.faults sink.new) desk.new.history }
+    ensures text {
+        let of_sink = sink_told K.held K.unsent K.faults in
+        (start : SinkTold) → HoldsSoFar (change start (of_sink sink.old)) desk.old.history
+        → Puts result (change start (of_sink sink.new)) desk.new.history }
     ensures turns { Turns result desk.old desk.new }
-    ensures cause { IfSome result (λ o.
-        EndsBy o (S.left source.new) (S.faults source.old) (S.faults source.new) (K.faults sink.old) (K.faults sink.new) desk.new) }
+    ensures cause {
+        let of_source = source_told S.given S.left S.faults in
+        let of_sink = sink_told K.held K.unsent K.faults in
+        IfSome result (λ o. EndsBy o (change (of_source source.old) (of_source source.new))
+        (change (of_sink sink.old) (of_sink sink.new)) desk.new) }
     ensures heard { (start : Option (List Happening)) (made : ℕ) → HeardSoFar start (S.given source.old) made desk.old
         → HearsOn result start (S.given source.new) (made + 1) desk.new }
     ensures limit { desk.new.limit ≡ desk.old.limit }

@@ -1,8 +1,14 @@
--- Part of the end line after the text is part of both.
-use Rattle.fnc_journal.specs.Line.{end_line}
-use Rattle.fnc_outside.proofs.Telling.{gains-part, holds-appended}
+-- The end line after the text, or a part of it, which is part of both.
+use Rattle.fnc_journal.specs.Line.{answers_text, end_line}
+use Rattle.fnc_outside.proofs.Telling.{gains-gains, gains-part, holds-appended}
 use Rattle.fnc_replay.proofs.turn.finish.Goals as goal
 
+pub returns-in-Ok-clause-text : goal.returns-in-Ok-clause-text
+returns-in-Ok-clause-text g c = λ start held.
+    gains-gains start.held _ _ (answers_text c.args.journal.now.history) (end_line c.args.journal.now.history)
+    held.0 c.in-Ok.ensures.ok
+
 pub returns-in-Err-clause-text : goal.returns-in-Err-clause-text
-returns-in-Err-clause-text g c = λ start gained.
-    holds-appended start _ _ (gains-part start _ _ _ (end_line c.args.journal.now.history) gained c.in-Err.ensures.err)
+returns-in-Err-clause-text g c = λ start held.
+    holds-appended start.held _ _
+    (gains-part start.held _ _ _ (end_line c.args.journal.now.history) held.0 c.in-Err.ensures.err)
