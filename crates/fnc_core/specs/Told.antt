@@ -5,7 +5,7 @@ use Rattle.fnc_journal.specs.declared.entry.Run.{Run}
 use Rattle.fnc_journal.specs.History.{History}
 use Rattle.fnc_journal.specs.Operations.{operation}
 use Rattle.fnc_journal.specs.Slots.{Operation}
-use Rattle.fnc_ops.specs.declared.operation.Standing.{Standing}
+use Rattle.fnc_records.specs.declared.operation.Standing.{Standing}
 use Rattle.fnc_core.specs.Limits.{limit_at, time_of}
 use Rattle.fnc_core.specs.declared.change.Started.{Started}
 

@@ -5,7 +5,7 @@ ghost use Rattle.fnc_journal.specs.Found.{starts};
 ghost use Rattle.fnc_journal.specs.Lawful.{Lawful};
 ghost use Rattle.fnc_journal.specs.Startable.{first};
 ghost use Rattle.fnc_ops.specs.OpsRecords.{waiting};
-ghost use Rattle.fnc_ops.specs.SlotFacts.{BothOr};
+ghost use Rattle.fnc_records.specs.SlotFacts.{BothOr};
 ghost use Rattle.fnc_ops.specs.Stands.{AreBounded};
 ghost use Rattle.fnc_core.specs.Between.{Rests, StartsNext, IsNextStart};
 ghost use Rattle.fnc_core.specs.Told.{IsTold};

@@ -11,7 +11,7 @@ use Rattle.fnc_queue.specs.Items.{Changes, item_of}
 use Rattle.fnc_queue.specs.Lanes.{CountsOneMore}
 use Rattle.fnc_queue.specs.Places.{first_of}
 use Rattle.fnc_queue.specs.Queued.{Queued, started}
-use Rattle.fnc_ops.specs.SlotFacts.{BothOr}
+use Rattle.fnc_records.specs.SlotFacts.{BothOr}
 use Rattle.fnc_core.specs.declared.change.Started.{Started}
 use Rattle.fnc_core.specs.Between.{Rests, IsNextStart}
 use Rattle.fnc_core.specs.Parted.{Parted}
