@@ -32,7 +32,7 @@ use Rattle.std.proofs.Common.{
   le-ltb,
   lt-ltb,
 }
-use Rattle.std.specs.Prelude.{find, option_map, option_and_then, unwrap_or}
+use Rattle.std.specs.Prelude.{option_map, option_and_then, unwrap_or}
 use Rattle.fnc_outside.specs.Writes.{AppendsPart}
 use Rattle.fnc_journal.specs.declared.definition.Registration.{Registration}
 use Rattle.fnc_journal.specs.declared.entry.Entry.{Entry}
@@ -40,25 +40,13 @@ use Rattle.fnc_journal.specs.declared.event.Event.{Event}
 use Rattle.fnc_journal.specs.declared.event.Request.{Request}
 use Rattle.fnc_journal.specs.History.{History}
 use Rattle.fnc_journal.specs.Missing.{or_here}
-use Rattle.fnc_journal.specs.Found.{
-  Asked,
-  asked,
-  asked_here,
-  asks,
-  entry_at,
-  is_ask_of,
-  registration,
-  registration_here,
-  request,
-  requested_here,
-}
+use Rattle.fnc_journal.specs.Found.{Asked, asked, asked_here, entry_at, registration, registration_here, request, requested_here}
 use Rattle.fnc_journal.specs.Lawful.{Lawful, in_order}
 use Rattle.fnc_journal.specs.Line.{answers_text, line_at, line_of, start_line, target_of}
 use Rattle.fnc_journal.specs.Operations.{led, operation}
 use Rattle.fnc_journal.specs.Prefix.{prefix}
 use Rattle.fnc_journal.proofs.Lawfulness.{and-left, and-right, in_order-of}
 use Rattle.fnc_journal.proofs.Prefixes.{prefix-all}
-use Rattle.fnc_journal.proofs.Requests.{fresh_ask}
 use Rattle.fnc_printing.proofs.Pieces.{part-of_front}
 
 -- the target of what was found under a number

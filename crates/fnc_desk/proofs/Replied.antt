@@ -27,7 +27,7 @@ use Rattle.fnc_journal.specs.declared.event.Event.{Event}
 use Rattle.fnc_journal.specs.declared.entry.Req.{Req}
 use Rattle.fnc_journal.specs.History.{History}
 use Rattle.fnc_journal.specs.Missing.{has_any}
-use Rattle.fnc_journal.specs.Found.{asks, devices, is_answered, is_reply, registration}
+use Rattle.fnc_journal.specs.Found.{asks, devices, is_answered, is_reply}
 use Rattle.fnc_journal.specs.Operations.{is_open, operation, operations, requests}
 use Rattle.fnc_journal.specs.Served.{AreReplies}
 use Rattle.fnc_journal.specs.Slots.{Operation}

@@ -1,4 +1,4 @@
-use Rattle.std.proofs.Common.{ℕ, List, Option, [], ap, ◌∙◌}
+use Rattle.std.proofs.Common.{Option, [], ap, ◌∙◌}
 use Rattle.std.specs.Prelude.{option_map, unwrap_or}
 use Rattle.fnc_journal.specs.declared.event.Request.{Request}
 use Rattle.fnc_desk.proofs.Lines.{target_found}
