@@ -1,33 +1,5 @@
 -- The parts after a request, where the records stand for the journal with it and the queue holds what is then wanted.
-use Rattle.std.proofs.Common.{
-  ℕ,
-  List,
-  ◌∷◌,
-  Bool,
-  true,
-  false,
-  ◌≡◌,
-  ◌≤◌,
-  ◌+◌,
-  ◌==◌,
-  ◌||◌,
-  refl,
-  ap,
-  sym,
-  ◌∙◌,
-  subst,
-  arith,
-  length,
-  eq-eqb,
-  eqb-true,
-  ne_eqb,
-  max,
-  cond,
-  ◌*◌,
-  Option,
-  Some,
-  None,
-}
+use Rattle.std.proofs.Common.{ℕ, List, ◌∷◌, Bool, true, false, ◌≡◌, ◌≤◌, ◌+◌, ◌==◌, ◌||◌, refl, ap, sym, ◌∙◌, subst, arith, length, eq-eqb, eqb-true, ne_eqb, cond, ◌*◌, Option, Some, None}
 use Rattle.std.specs.Prelude.{option_map, unwrap_or}
 use Rattle.fnc_journal.specs.declared.limits.TheConstants.{GREATEST_JOURNAL}
 use Rattle.fnc_journal.specs.declared.event.Request.{Request}
@@ -49,7 +21,7 @@ use Rattle.fnc_ops.specs.Stands.{StandsFor, AreAt, begun_request}
 use Rattle.fnc_queue.specs.Lanes.{lane_count}
 use Rattle.fnc_queue.specs.declared.waiting.Waiting.{Waiting}
 use Rattle.fnc_queue.specs.Items.{item_of, is_waiting, Changes}
-use Rattle.fnc_queue.specs.Queued.{Queued, reserved}
+use Rattle.fnc_queue.specs.Queued.{Queued}
 use Rattle.fnc_core.specs.Between.{Between, Rests, Adds, RoomFor, entry}
 use Rattle.fnc_core.specs.Parted.{Parted}
 use Rattle.fnc_core.proofs.KnownFew.{knows-undevice}

@@ -33,7 +33,6 @@ use Rattle.fnc_journal.specs.declared.limits.TheConstants.{GREATEST_JOURNAL}
 use Rattle.fnc_journal.specs.declared.event.Ended.{Ended}
 use Rattle.fnc_journal.specs.declared.event.Start.{Start}
 use Rattle.fnc_journal.specs.declared.event.Event.{Event}
-use Rattle.fnc_journal.specs.declared.entry.Exit.{Exit}
 use Rattle.fnc_journal.specs.History.{History}
 use Rattle.fnc_journal.specs.Found.{started, has_exit}
 use Rattle.fnc_journal.specs.Registered.{lane}

@@ -37,9 +37,7 @@ use Rattle.fnc_journal.specs.declared.entry.LevelTarget.{LevelTarget}
 use Rattle.fnc_journal.specs.declared.entry.Scope.{Scope}
 use Rattle.fnc_journal.specs.declared.event.Event.{Event}
 use Rattle.fnc_journal.specs.declared.limits.TheConstants.{MOST_DEVICES, MOST_DEVICES_OF_LEVEL, MOST_LEVELS_OF_TARGET}
-use Rattle.fnc_journal.specs.declared.plan.Candidate.{Candidate}
 use Rattle.fnc_journal.specs.declared.plan.Plan.{Plan}
-use Rattle.fnc_journal.specs.declared.plan.PlanLevel.{PlanLevel}
 use Rattle.fnc_journal.specs.Device.{Device}
 use Rattle.fnc_journal.specs.Found.{devices, is_device}
 use Rattle.fnc_journal.specs.History.{History}

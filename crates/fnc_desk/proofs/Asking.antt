@@ -19,27 +19,44 @@ use Rattle.fnc_desk.proofs.Entering.{lacks-known, takes-known}
 use Rattle.fnc_desk.proofs.OffOperations.{joined-none, off_ask, six-needed}
 use Rattle.fnc_desk.proofs.Replied.{devices-replied, plain-replied, none-open}
 
+-- a request for which no operation is open wants six entries after an advance too
+six-after : (old new : Cored) (m : ℕ) (a : Ask) (p : Plan) (client target : List ℕ) → a ≡ off_ask client target →
+    p ≡ only_plan → IsPlainJournal old.history → devices old.history ≡ 1 → has_operation target old.history ≡ false →
+    Advances old new m → ask_need new a p ≡ 6
+six-after old new m a p client target a-is p-is first device free k =
+    ap₂ (ask_need new) a-is p-is
+    ∙ six-needed new client target
+    (subst IsPlainJournal (sym k.history) (plain-replied m k.advance old.history k.at_once first))
+    (ap devices k.history ∙ devices-replied m k.advance old.history k.at_once ∙ device)
+    (ap (has_operation target) k.history ∙ none-open m k.advance old.history k.at_once target free)
+
 -- a request that the core took, with the number that came next
 pub takes-request : (old new : Cored) (m : ℕ) (req : Req) (a : Ask) (p : Plan) (client target : List ℕ) →
-    a ≡ off_ask client target → p ≡ only_plan → IsPlainJournal old.history → has_operation target old.history ≡ false →
-    old.last ≤ m → req.0 ≡ asks old.history → Asks old new m a p req → TakesInput (request_input m client target old.history) old new
-takes-request old new m req a p client target a-is p-is first free later number k =
+    a ≡ off_ask client target → p ≡ only_plan → IsPlainJournal old.history → devices old.history ≡ 1 →
+    has_operation target old.history ≡ false → old.last ≤ m → req.0 ≡ asks old.history → Asks old new m a p req →
+    TakesInput (request_input m client target old.history) old new
+takes-request old new m req a p client target a-is p-is first device free later number k =
     takes-known (request_input m client target old.history) old new later
-    (subst (λ (event : Event). Enters old new m event) event-is k.enters)
+    (subst (λ n. Enters old new m (ask_of (record { 0 = asks old.history }) client target) n) six
+    (subst (λ (event : Event). Enters old new m event k.need) event-is k.enters))
   where
+    six : k.need ≡ 6
+    six = k.needs ∙ six-after old k.enters.advanced m a p client target a-is p-is first device free k.enters.advances
+
     met : History
-    met = k.enters.advance ++ old.history
+    met = k.enters.advances.advance ++ old.history
 
     alone : k.lead ≡ req
     alone =
         k.leads
+        ∙ ap (λ (h : History). record { 0 = unwrap_or (option_map (λ (o : Operation). o.req) (joined h m a.kind a.target)) req.0 }) k.enters.advances.history
         ∙ ap (λ (x : Option Operation). record { 0 = unwrap_or (option_map (λ (o : Operation). o.req) x) req.0 }) none
       where
         none : joined met m a.kind a.target ≡ None
         none =
             ap (λ (b : Ask). joined met m b.kind b.target) a-is
-            ∙ joined-none met (plain-replied m k.enters.advance old.history k.enters.at_once first) m target
-            (none-open m k.enters.advance old.history k.enters.at_once target free)
+            ∙ joined-none met (plain-replied m k.enters.advances.advance old.history k.enters.advances.at_once first) m target
+            (none-open m k.enters.advances.advance old.history k.enters.advances.at_once target free)
 
     event-is : ask_event req k.lead a p ≡ ask_of (record { 0 = asks old.history }) client target
     event-is =
@@ -50,15 +67,8 @@ takes-request old new m req a p client target a-is p-is first free later number 
 -- and one for which it has no room
 pub lacks-request : (old new : Cored) (m : ℕ) (a : Ask) (p : Plan) (full : Full) (client target : List ℕ) →
     a ≡ off_ask client target → p ≡ only_plan → IsPlainJournal old.history → devices old.history ≡ 1 →
-    has_operation target old.history ≡ false → old.last ≤ m → Advances old new m → IsFull new (ask_need new a p) full → InputLacksRoom (request_input m client target old.history) old new full
+    has_operation target old.history ≡ false → old.last ≤ m → Advances old new m → IsFull new (ask_need new a p) full →
+    InputLacksRoom (request_input m client target old.history) old new full
 lacks-request old new m a p full client target a-is p-is first device free later k f =
     lacks-known (request_input m client target old.history) old new full later k
-    (subst (λ n. IsFull new n full) need-is f)
-  where
-    need-is : ask_need new a p ≡ 6
-    need-is =
-        ap₂ (ask_need new) a-is p-is
-        ∙ six-needed new client target
-        (subst IsPlainJournal (sym k.history) (plain-replied m k.advance old.history k.at_once first))
-        (ap devices k.history ∙ devices-replied m k.advance old.history k.at_once ∙ device)
-        (ap (has_operation target) k.history ∙ none-open m k.advance old.history k.at_once target free)
+    (subst (λ n. IsFull new n full) (six-after old new m a p client target a-is p-is first device free k) f)

@@ -27,6 +27,7 @@ use Rattle.fnc_journal.specs.History.{History}
 use Rattle.fnc_journal.specs.Found.{devices, is_input}
 use Rattle.fnc_journal.specs.Startable.{is_alive}
 use Rattle.fnc_outside.specs.Events.{Happening}
+use Rattle.fnc_core.proofs.Following.{entered-answered, entered-history}
 use Rattle.fnc_core.specs.Cored.{Cored, Enters}
 use Rattle.fnc_desk.specs.Said.{Said, said}
 use Rattle.fnc_desk.specs.Entered.{TakesLine, TakesInput}
@@ -67,19 +68,15 @@ given-is_input (Happening.TooLong size) h last n e g = ap (λ (d : Entry). is_in
 given-is_input Happening.Again h last n e g = absurd g
 
 -- so there is one input more
-entered-counted : (old new : Cored) (e : Entry) → is_input e.event ≡ true → Enters old new e.moment e.event →
-    inputs new.history ≡ inputs old.history + 1
-entered-counted old new e is n =
-    ap inputs n.history
-    ∙ inputs-replied e.moment n.replies (e ∷ (n.advance ++ old.history)) n.answered
-    ∙ rw is (ap (λ k. k + 1) (inputs-replied e.moment n.advance old.history n.at_once))
+entered-counted : (old new : Cored) (e : Entry) (need : ℕ) → is_input e.event ≡ true →
+    Enters old new e.moment e.event need → inputs new.history ≡ inputs old.history + 1
+entered-counted old new e need is n =
+    ap inputs (entered-history n)
+    ∙ inputs-replied e.moment n.follows.replies (e ∷ (n.advances.advance ++ old.history)) (entered-answered n)
+    ∙ rw is (ap (λ k. k + 1) (inputs-replied e.moment n.advances.advance old.history n.advances.at_once))
 
 pub line-counted : (x : Happening) (old new : Cored) → TakesLine x old new → inputs new.history ≡ inputs old.history + 1
-line-counted x old new t =
-    entered-counted old new t.entry (given-is_input x (t.enters.advance ++ old.history) old.last _ t.entry t.is)
-    t.enters
+line-counted x old new t = entered-counted old new t.entry _ (given-is_input x (t.enters.advances.advance ++ old.history) old.last _ t.entry t.is) t.enters
 
-pub refused-counted : (old new : Cored) (m n : ℕ) (cause : Cause) → TakesInput (refused m n cause) old new →
-    inputs new.history ≡ inputs old.history + 1
-refused-counted old new m n cause t =
-    entered-counted old new t.entry (or-no-memory (refused m n cause) t.entry _ refl t.is) t.enters
+pub refused-counted : (old new : Cored) (m n : ℕ) (cause : Cause) → TakesInput (refused m n cause) old new → inputs new.history ≡ inputs old.history + 1
+refused-counted old new m n cause t = entered-counted old new t.entry _ (or-no-memory (refused m n cause) t.entry _ refl t.is) t.enters

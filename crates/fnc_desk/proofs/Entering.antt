@@ -40,7 +40,7 @@ device_entry m reg registration =
     record { moment = m; event = Event.Device (record { reg = record { 0 = reg }; registration = registration }) }
 
 pub takes-known : (input : Entry) (old new : Cored) → old.last ≤ input.moment →
-    Enters old new input.moment input.event → TakesInput input old new
+    Enters old new input.moment input.event (need_of input.event) → TakesInput input old new
 takes-known input old new l e = record { entry = input; later = l; enters = e; is = inl refl }
 
 pub lacks-known : (input : Entry) (old new : Cored) (full : Full) → old.last ≤ input.moment →
@@ -48,7 +48,7 @@ pub lacks-known : (input : Entry) (old new : Cored) (full : Full) → old.last �
 lacks-known input old new full l a f = record { entry = input; later = l; advances = a; is = inl refl; is_full = f }
 
 pub takes-result : (input : Entry) (old new : Cored) (r : Result (Unit {0}) Full) → old.last ≤ input.moment →
-    OnOk r (Enters old new input.moment input.event) → OnOk r (TakesInput input old new)
+    OnOk r (Enters old new input.moment input.event (need_of input.event)) → OnOk r (TakesInput input old new)
 takes-result input old new (Ok u) l e = takes-known input old new l e
 takes-result input old new (Err full) l e = tt
 
@@ -58,23 +58,7 @@ pub lacks-result : (input : Entry) (old new : Cored) (r : Result (Unit {0}) Full
 lacks-result input old new (Ok u) l a f = tt
 lacks-result input old new (Err full) l a f = lacks-known input old new full l a f
 
--- what enters at the moment to which the core advanced enters after that advance
-enters-after : (old mid new : Cored) (m : ℕ) (event : Event) → Advances old mid m → Enters mid new m event →
-    Enters old new m event
-enters-after old mid new m event a e = record {
-  advance = a.advance;
-  at_once = a.at_once;
-  still = a.still;
-  replies = e.replies;
-  answered = e.answered;
-  history =
-      e.history
-      ∙ ap (λ (h : History). e.replies ++ record { moment = m; event = event } ∷ (h ++ mid.history)) (e.still a.last)
-      ∙ ap (λ (h : History). e.replies ++ record { moment = m; event = event } ∷ h) a.history;
-  last = e.last;
-  limit = e.limit ∙ a.limit;
-}
-
+-- what advances at the moment to which the core advanced gives no more replies
 advances-after : (old mid new : Cored) (m : ℕ) → Advances old mid m → Advances mid new m → Advances old new m
 advances-after old mid new m a b = record {
   advance = a.advance;
@@ -83,6 +67,17 @@ advances-after old mid new m a b = record {
   history = b.history ∙ ap (λ (h : History). h ++ mid.history) (b.still a.last) ∙ a.history;
   last = b.last;
   limit = b.limit ∙ a.limit;
+  sound = b.sound;
+}
+
+-- and what enters then enters after that advance
+enters-after : (old mid new : Cored) (m : ℕ) (event : Event) (need : ℕ) → Advances old mid m →
+    Enters mid new m event need → Enters old new m event need
+enters-after old mid new m event need a e = record {
+  advanced = e.advanced;
+  advances = advances-after old mid e.advanced m a e.advances;
+  has_room = e.has_room;
+  follows = e.follows;
 }
 
 -- what the line gives in place of an input has the input's moment
@@ -102,7 +97,7 @@ takes-after input old mid new (Ok u) later a t =
     record {
       entry = t.entry;
       later = omega (arith, later, same);
-      enters = enters-after old mid new t.entry.moment t.entry.event (subst (Advances old mid) (sym same) a) t.enters;
+      enters = enters-after old mid new t.entry.moment t.entry.event (need_of t.entry.event) (subst (Advances old mid) (sym same) a) t.enters;
       is = subst (λ n. IsInput input n t.entry) (next-after old mid input.moment a) t.is;
     }
 

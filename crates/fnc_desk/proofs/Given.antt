@@ -37,6 +37,7 @@ use Rattle.fnc_journal.specs.Served.{AreReplies}
 use Rattle.fnc_journal.specs.Startable.{is_alive}
 use Rattle.fnc_journal.proofs.Lawfulness.{and-left, and-right}
 use Rattle.fnc_outside.specs.Events.{Happening}
+use Rattle.fnc_core.proofs.Following.{entered-answered, entered-history}
 use Rattle.fnc_core.specs.Cored.{Advances, Cored, Enters}
 use Rattle.fnc_desk.specs.Entered.{InputLacksRoom, LacksRoom, TakesInput, TakesLine, next_line}
 use Rattle.fnc_desk.specs.PlainJournal.{IsPlainJournal, IsPlainEntry}
@@ -92,9 +93,7 @@ takes-said s n bytes old new is number t = record {
   entry = t.entry;
   later = t.later;
   enters = t.enters;
-  is =
-      given-after (said bytes) old.history t.enters.advance old.last (next_line old) t.entry t.enters.at_once
-      t.enters.still
+  is = given-after (said bytes) old.history t.enters.advances.advance old.last (next_line old) t.entry t.enters.advances.at_once t.enters.advances.still
       (subst (λ (x : Said). IsInput (input_of x old.history old.last (next_line old)) (next_line old) t.entry) is
       (subst (λ k. IsInput (input_of s old.history old.last k) (next_line old) t.entry) number t.is));
 }
@@ -158,25 +157,22 @@ plain-given (Happening.TooLong size) h last n e g = subst (λ (d : Entry). IsPla
 plain-given Happening.Again h last n e g = absurd g
 
 -- and so the session goes on
-plain-entered : (old new : Cored) (e : Entry) → IsPlainJournal old.history →
-    (enters : Enters old new e.moment e.event) → IsPlainEntry e.event (enters.advance ++ old.history) →
+plain-entered : (old new : Cored) (e : Entry) (need : ℕ) → IsPlainJournal old.history →
+    (enters : Enters old new e.moment e.event need) → IsPlainEntry e.event (enters.advances.advance ++ old.history) →
     IsPlainJournal new.history
-plain-entered old new e f n k =
-    subst IsPlainJournal (sym n.history)
-    (plain-replied e.moment n.replies _ n.answered (k, plain-replied e.moment n.advance old.history n.at_once f))
+plain-entered old new e need f n k =
+    subst IsPlainJournal (sym (entered-history n))
+    (plain-replied e.moment n.follows.replies _ (entered-answered n)
+    (k, plain-replied e.moment n.advances.advance old.history n.advances.at_once f))
 
-pub plain-taken : (x : Happening) (old new : Cored) → IsPlainJournal old.history → TakesLine x old new →
-    IsPlainJournal new.history
-plain-taken x old new f t =
-    plain-entered old new t.entry f t.enters (plain-given x _ old.last (next_line old) t.entry t.is)
+pub plain-taken : (x : Happening) (old new : Cored) → IsPlainJournal old.history → TakesLine x old new → IsPlainJournal new.history
+plain-taken x old new f t = plain-entered old new t.entry _ f t.enters (plain-given x _ old.last (next_line old) t.entry t.is)
 
-pub plain-refused : (old new : Cored) (m n : ℕ) (cause : Cause) → IsPlainJournal old.history →
-    TakesInput (refused m n cause) old new → IsPlainJournal new.history
-plain-refused old new m n cause f t = plain-entered old new t.entry f t.enters (go t.is)
+pub plain-refused : (old new : Cored) (m n : ℕ) (cause : Cause) → IsPlainJournal old.history → TakesInput (refused m n cause) old new → IsPlainJournal new.history
+plain-refused old new m n cause f t = plain-entered old new t.entry _ f t.enters (go t.is)
   where
-    go : IsInput (refused m n cause) (next_line old) t.entry →
-        IsPlainEntry t.entry.event (t.enters.advance ++ old.history)
-    go (inl k) = subst (λ (d : Entry). IsPlainEntry d.event (t.enters.advance ++ old.history)) (sym k) tt
+    go : IsInput (refused m n cause) (next_line old) t.entry → IsPlainEntry t.entry.event (t.enters.advances.advance ++ old.history)
+    go (inl k) = subst (λ (d : Entry). IsPlainEntry d.event (t.enters.advances.advance ++ old.history)) (sym k) tt
     go (inr k) = cc
 
 -- also after an advance, which is no line

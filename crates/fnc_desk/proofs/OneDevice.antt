@@ -157,12 +157,8 @@ in-place h f target = rw (no-levels h f (LevelTarget.Name target)) refl
 
 -- every request has the one plan
 pub only-planned : (h : History) (m : ℕ) (target : List ℕ) → HasOne h → IsPlanOf h m Kind.Off target only_plan
-only-planned h m target one = record {
-  is = rw (one.candidates_are (record { kind = Kind.Off; target = target; begin = m; scope = Scope.Nothing }) h refl one.current_is) refl;
-  few_candidates = omega arith;
-  few_levels = omega arith;
-  few_devices = tt;
-}
+only-planned h m target one =
+    rw (one.candidates_are (record { kind = Kind.Off; target = target; begin = m; scope = Scope.Nothing }) h refl one.current_is) refl
 
 -- a value behind a reference is there where the reference is
 some-copied : {T : Type 0} (x : Option (Bor T)) → is_some (option_copied x) ≡ is_some x

@@ -7,12 +7,13 @@ use Rattle.fnc_outside.specs.Events.{Happening}
 use Rattle.fnc_core.specs.Cored.{Cored, Advances, Enters, IsFull}
 use Rattle.fnc_desk.specs.Inputs.{inputs, line_number, Gives, IsInput, need_of}
 
--- one input entry, which is one of these after the journal that it finds, enters at its moment
+-- one input entry, which is one of these after the journal that it finds, enters at its moment, with the room that it
+-- needs
 pub record Takes (IsEntry : History → Entry → Type 0) (old new : Cored) : Type 0 where
   pub entry : Entry
   pub later : old.last ≤ entry.moment
-  pub enters : Enters old new entry.moment entry.event
-  pub is : IsEntry (enters.advance ++ old.history) entry
+  pub enters : Enters old new entry.moment entry.event (need_of entry.event)
+  pub is : IsEntry (enters.advances.advance ++ old.history) entry
 
 -- the input entry finds no room for what it needs: only the moment advances, and there is no entry
 pub record Lacks (IsEntry : History → Entry → Type 0) (old new : Cored) (full : Full) : Type 0 where

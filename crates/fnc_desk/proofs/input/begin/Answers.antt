@@ -1,6 +1,7 @@
 -- A request is the one that its line asks, and needs six entries.
 use Rattle.std.proofs.Common.{ap₂, refl, sym, ◌∙◌, subst, true, ◌≡◌}
 use Rattle.fnc_journal.specs.declared.cause.Cause.{Cause}
+use Rattle.fnc_journal.specs.declared.entry.Kind.{Kind}
 use Rattle.fnc_journal.specs.declared.plan.Plan.{Plan}
 use Rattle.fnc_journal.specs.Levels.{is_in_place}
 use Rattle.fnc_core.specs.Between.{IsPlanOf}
@@ -20,9 +21,8 @@ ask-requires-clause-in_place c =
 
 pub ask-requires-clause-planned : goal.ask-requires-clause-planned
 ask-requires-clause-planned c =
-    subst (λ (a : Ask). IsPlanOf c.args.core.now.history c.args.moment a.kind a.target c.in-Ok-Ok-Ok.plan)
-    (sym c.off.ensures)
-    (subst (λ (p : Plan). IsPlanOf c.args.core.now.history c.args.moment _ c.in-Ok-Ok-Ok.target p) (sym c.in-Ok-Ok-Ok.ensures'')
+    subst (λ (a : Ask). IsPlanOf c.args.core.now.history c.args.moment a.kind a.target c.in-Ok-Ok-Ok.plan) (sym c.off.ensures)
+    (subst (λ (p : Plan). IsPlanOf c.args.core.now.history c.args.moment Kind.Off c.in-Ok-Ok-Ok.target p) (sym c.in-Ok-Ok-Ok.ensures'')
     (only-planned c.args.core.now.history c.args.moment c.in-Ok-Ok-Ok.target (one-known c.args.core.now.history c.requires.session c.requires.device)))
 
 pub refuse-requires-in-Err-NoMemory-clause-number : goal.refuse-requires-in-Err-NoMemory-clause-number
@@ -31,10 +31,8 @@ refuse-requires-in-Err-NoMemory-clause-number c =
 
 pub returns-in-Ok-clause-ok : goal.returns-in-Ok-clause-ok
 returns-in-Ok-clause-ok c =
-    takes-request c.args.core.now c.ask.new.self c.args.moment c.in-Ok.field-0 c.off.result c.in-Ok-Ok-Ok.plan
-    c.args.client.now c.args.target.now
-    (c.off.ensures ∙ ap₂ off_ask c.in-Ok-Ok-Ok.ensures c.in-Ok-Ok-Ok.ensures') c.in-Ok-Ok-Ok.ensures''
-    c.requires.session c.requires.free c.requires.later c.in-Ok.ensures.number c.in-Ok.ensures.ok
+    takes-request c.args.core.now c.ask.new.self c.args.moment c.in-Ok.field-0 c.off.result c.in-Ok-Ok-Ok.plan c.args.client.now c.args.target.now
+    (c.off.ensures ∙ ap₂ off_ask c.in-Ok-Ok-Ok.ensures c.in-Ok-Ok-Ok.ensures') c.in-Ok-Ok-Ok.ensures'' c.requires.session c.requires.device c.requires.free c.requires.later c.in-Ok.ensures.number c.in-Ok.ensures.ok
 
 pub returns-in-Err-Full-clause-full : goal.returns-in-Err-Full-clause-full
 returns-in-Err-Full-clause-full c =

@@ -1,10 +1,19 @@
 -- A device is the one that its line names, and needs one entry.
-use Rattle.std.proofs.Common.{subst}
+use Rattle.std.proofs.Common.{subst, arith, ◌≡◌}
 use Rattle.std.specs.Prelude.{OnOk, IfErr}
 use Rattle.fnc_journal.specs.declared.definition.Registration.{Registration}
+use Rattle.fnc_journal.specs.Found.{devices}
+use Rattle.fnc_core.specs.Cored.{event_of}
+use Rattle.fnc_core.specs.declared.change.Change.{Change}
+use Rattle.fnc_core.proofs.KnownFew.{few-ever}
 use Rattle.fnc_desk.specs.Entered.{TakesInput, InputLacksRoom}
 use Rattle.fnc_desk.proofs.Entering.{device_entry, lacks-result, takes-result}
 use Rattle.fnc_desk.proofs.input.register.Goals as goal
+
+pub note-requires-clause-few_names : goal.note-requires-clause-few_names
+note-requires-clause-few_names c =
+    let none : devices c.args.core.now.history ≡ 0 = c.requires.first in
+    few-ever c.args.moment (event_of c.args.core.now.history (Change.Device c.in-Ok.registration)) c.args.core.now.history (omega (arith, none))
 
 pub returns-in-Ok-clause-ok : goal.returns-in-Ok-clause-ok
 returns-in-Ok-clause-ok c =

@@ -18,3 +18,10 @@ returns-in-Ask-clause-full c =
 pub returns-in-Exit-clause-full : goal.returns-in-Exit-clause-full
 returns-in-Exit-clause-full c =
     subst (λ (l : Line). IfErr c.exit.result (InputLacksRoom (input_of (meant l) c.args.core.now.history c.args.core.now.last c.args.line) c.args.core.now c.exit.new.core)) (sym c.in-Exit.is) c.exit.ensures.full
+
+pub returns-in-Exit-clause-ok : goal.returns-in-Exit-clause-ok
+returns-in-Exit-clause-ok c =
+    subst
+    (λ (l : Line). OnOk c.exit.result (TakesInput (input_of (meant l) c.args.core.now.history c.args.core.now.last c.args.line)
+    c.args.core.now c.exit.new.core))
+    (sym c.in-Exit.is) c.exit.ensures.ok

@@ -1,5 +1,5 @@
 -- The parts with a request that joined, and without memory for it.
-use Rattle.std.proofs.Common.{refl, ◌∷◌, ◌≡◌, ◌≤◌, ◌+◌, ◌∙◌, ap, subst, sym, length, true, option_map, Some}
+use Rattle.std.proofs.Common.{refl, ◌∷◌, ◌≡◌, ◌≤◌, ◌+◌, ◌∙◌, ap, subst, sym, true, option_map, Some}
 use Rattle.fnc_journal.specs.declared.event.Request.{Request}
 use Rattle.fnc_journal.specs.declared.event.Event.{Event}
 use Rattle.fnc_journal.specs.Lawful.{in_order}
