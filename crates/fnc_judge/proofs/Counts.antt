@@ -6,7 +6,8 @@ use Rattle.fnc_journal.specs.History.{History}
 use Rattle.fnc_journal.specs.Found.{devices, asks, starts, is_device, is_ask, is_start}
 use Rattle.fnc_judge.specs.Numbers.{IsBelow, numbered, numbers_of}
 
-pub numbers-more : (m : ℕ) (event : Event) (h : History) → numbered (numbers_of h) event ≡ numbers_of (record { moment = m; event = event } ∷ h)
+pub numbers-more : (m : ℕ) (event : Event) (h : History) →
+    numbered (numbers_of h) event ≡ numbers_of (record { moment = m; event = event } ∷ h)
 numbers-more m (Event.Device device) h = refl
 numbers-more m (Event.Ask ask) h = refl
 numbers-more m (Event.Start start) h = refl

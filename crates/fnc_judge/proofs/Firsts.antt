@@ -39,7 +39,8 @@ pub fault-prefix : (h : History) (n : ℕ) (f : Fault) → fault (prefix n h) �
 fault-prefix [] n f e = e
 fault-prefix (d ∷ before) n f e = go (ltb (length before) n) e (λ k. fault-prefix before n f k)
   where
-    go : (b : Bool) → fault (cond b (d ∷ before) (prefix n before)) ≡ Some f → (fault (prefix n before) ≡ Some f → fault before ≡ Some f) → fault (d ∷ before) ≡ Some f
+    go : (b : Bool) → fault (cond b (d ∷ before) (prefix n before)) ≡ Some f →
+        (fault (prefix n before) ≡ Some f → fault before ≡ Some f) → fault (d ∷ before) ≡ Some f
     go true e ih = e
     go false e ih = ap (with_before (fault_at (length before) (broken d before))) (ih e)
 
@@ -48,7 +49,8 @@ pub fault-more : (h : History) (e : Entry) → fault h ≡ None → fault (e ∷
 fault-more h e p = ap (with_before (fault_at (length h) (broken e h))) p
 
 -- the fault of the next prefix, where there was none before
-pub fault-next : (h : History) (i : ℕ) (e : Entry) (x : Option Rule) → i < length h → entry_at i h ≡ Some e → fault (prefix i h) ≡ None → broken e (prefix i h) ≡ x →
+pub fault-next : (h : History) (i : ℕ) (e : Entry) (x : Option Rule) → i < length h → entry_at i h ≡ Some e →
+    fault (prefix i h) ≡ None → broken e (prefix i h) ≡ x →
     fault (prefix (i + 1) h) ≡ fault_at i x
 fault-next h i e x l f none b =
     ap fault (prefix-more h i e l f)

@@ -32,7 +32,8 @@ use Rattle.fnc_search.specs.Seen.{seen_of, confirmed_by, concluded_by, spent_by}
 use Rattle.fnc_judge.specs.Tours.{Gathered, gathered, gathered_all}
 use Rattle.fnc_search.proofs.Looks.{confirmed_same, concluded_same}
 
-option_or-next : {X : Type 0} (e : Option X) (b : Bool) (x : X) (rest : Option X) → option_or (option_or e (cond b None (Some x))) rest ≡ option_or e (cond (not b) (Some x) rest)
+option_or-next : {X : Type 0} (e : Option X) (b : Bool) (x : X) (rest : Option X) →
+    option_or (option_or e (cond b None (Some x))) rest ≡ option_or e (cond (not b) (Some x) rest)
 option_or-next None true x rest = refl
 option_or-next None false x rest = refl
 option_or-next (Some y) b x rest = refl
@@ -46,16 +47,20 @@ pub gathered-unconfirmed : (o : Operation) (m : ℕ) (acts : List Act) (g : Gath
 gathered-unconfirmed o m acts g [] = option_or-none g.unconfirmed
 gathered-unconfirmed o m acts g (t ∷ ts) =
     gathered-unconfirmed o m acts (gathered o m acts g t) ts
-    ∙ option_or-next g.unconfirmed (confirmed_by t (seen_of t o.over acts)) t (find (λ t. not (confirmed t o.over acts)) ts)
-    ∙ ap (λ b. option_or g.unconfirmed (cond (not b) (Some t) (find (λ t. not (confirmed t o.over acts)) ts))) (confirmed_same t o.over acts)
+    ∙ option_or-next g.unconfirmed (confirmed_by t (seen_of t o.over acts)) t
+    (find (λ t. not (confirmed t o.over acts)) ts)
+    ∙ ap (λ b. option_or g.unconfirmed (cond (not b) (Some t) (find (λ t. not (confirmed t o.over acts)) ts)))
+    (confirmed_same t o.over acts)
 
 pub gathered-unconcluded : (o : Operation) (m : ℕ) (acts : List Act) (g : Gathered) (ts : List Task) →
     (gathered_all o m acts g ts).unconcluded ≡ option_or g.unconcluded (find (λ t. not (concluded t o.over m acts)) ts)
 gathered-unconcluded o m acts g [] = option_or-none g.unconcluded
 gathered-unconcluded o m acts g (t ∷ ts) =
     gathered-unconcluded o m acts (gathered o m acts g t) ts
-    ∙ option_or-next g.unconcluded (concluded_by t m (seen_of t o.over acts)) t (find (λ t. not (concluded t o.over m acts)) ts)
-    ∙ ap (λ b. option_or g.unconcluded (cond (not b) (Some t) (find (λ t. not (concluded t o.over m acts)) ts))) (concluded_same t o.over m acts)
+    ∙ option_or-next g.unconcluded (concluded_by t m (seen_of t o.over acts)) t
+    (find (λ t. not (concluded t o.over m acts)) ts)
+    ∙ ap (λ b. option_or g.unconcluded (cond (not b) (Some t) (find (λ t. not (concluded t o.over m acts)) ts)))
+    (concluded_same t o.over m acts)
 
 or-next : (a b c : Bool) → ((a || b) || c) ≡ (a || (b || c))
 or-next true b c = refl
@@ -70,14 +75,18 @@ pub gathered-lost : (o : Operation) (m : ℕ) (acts : List Act) (g : Gathered) (
 gathered-lost o m acts g [] = or-false g.lost
 gathered-lost o m acts g (t ∷ ts) =
     gathered-lost o m acts (gathered o m acts g t) ts
-    ∙ or-next g.lost (spent_by t m (seen_of t o.over acts) && not (confirmed_by t (seen_of t o.over acts))) (list_any (is_lost_by o m acts) ts)
-    ∙ ap (λ b. g.lost || ((spent t o.over m acts && not b) || list_any (is_lost_by o m acts) ts)) (confirmed_same t o.over acts)
+    ∙ or-next g.lost (spent_by t m (seen_of t o.over acts) && not (confirmed_by t (seen_of t o.over acts)))
+    (list_any (is_lost_by o m acts) ts)
+    ∙ ap (λ b. g.lost || ((spent t o.over m acts && not b) || list_any (is_lost_by o m acts) ts))
+    (confirmed_same t o.over acts)
 
 pub gathered-greatest : (o : Operation) (m : ℕ) (acts : List Act) (g : Gathered) (ts us : List Task) →
-    max g.greatest (greatest_concluded o m acts (ts ++ us)) ≡ max (gathered_all o m acts g ts).greatest (greatest_concluded o m acts us)
+    max g.greatest (greatest_concluded o m acts (ts ++ us))
+    ≡ max (gathered_all o m acts g ts).greatest (greatest_concluded o m acts us)
 gathered-greatest o m acts g [] us = refl
 gathered-greatest o m acts g (t ∷ ts) us =
-    go (concluded t o.over m acts) (concluded_by t m (seen_of t o.over acts)) (concluded_same t o.over m acts) ∙ gathered-greatest o m acts (gathered o m acts g t) ts us
+    go (concluded t o.over m acts) (concluded_by t m (seen_of t o.over acts)) (concluded_same t o.over m acts)
+    ∙ gathered-greatest o m acts (gathered o m acts g t) ts us
   where
     at : ℕ
     at = concluded_at t o.begin o.over acts
@@ -85,7 +94,8 @@ gathered-greatest o m acts g (t ∷ ts) us =
     rest : ℕ
     rest = greatest_concluded o m acts (ts ++ us)
 
-    go : (b c : Bool) → c ≡ b → max g.greatest (cond b (max at rest) rest) ≡ max (cond c (max g.greatest at) g.greatest) rest
+    go : (b c : Bool) → c ≡ b →
+        max g.greatest (cond b (max at rest) rest) ≡ max (cond c (max g.greatest at) g.greatest) rest
     go true true e = omega arith
     go true false e = cc
     go false true e = cc
@@ -96,6 +106,7 @@ pub all-find : {X : Type 0} (p : X → Bool) (xs : List X) → list_all p xs ≡
 all-find p [] = refl
 all-find p (x ∷ xs) = go (p x) (all-find p xs)
   where
-    go : (b : Bool) → list_all p xs ≡ is_none (find (λ x. not (p x)) xs) → (b && list_all p xs) ≡ is_none (cond (not b) (Some x) (find (λ x. not (p x)) xs))
+    go : (b : Bool) → list_all p xs ≡ is_none (find (λ x. not (p x)) xs) →
+        (b && list_all p xs) ≡ is_none (cond (not b) (Some x) (find (λ x. not (p x)) xs))
     go true e = e
     go false e = refl

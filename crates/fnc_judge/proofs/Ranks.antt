@@ -29,7 +29,8 @@ use Rattle.fnc_journal.specs.Acts.{Act}
 abbrev places : Kind → History → List (List ℕ) → List (Option Device)
 places kind before names = map (place_of kind before) (map (λ name. option_map reg_of (current name before)) names)
 
-unfit-same : (kind : Kind) (before : History) (names : List (List ℕ)) → list_any is_none (places kind before names) ≡ is_unfit kind before names
+unfit-same : (kind : Kind) (before : History) (names : List (List ℕ)) →
+    list_any is_none (places kind before names) ≡ is_unfit kind before names
 unfit-same kind before [] = refl
 unfit-same kind before (name ∷ names) = ap (λ b. is_none (placed kind before name) || b) (unfit-same kind before names)
 
@@ -37,31 +38,41 @@ unfit-same kind before (name ∷ names) = ap (λ b. is_none (placed kind before 
 abbrev here : List (Option Device) → List Device
 here ps = filter_map (λ d. d) ps
 
-firsts-same : (split : Bool) (kind : Kind) (before : History) (level place : ℕ) (names : List (List ℕ)) → is_unfit kind before names ≡ false →
+firsts-same : (split : Bool) (kind : Kind) (before : History) (level place : ℕ) (names : List (List ℕ)) →
+    is_unfit kind before names ≡ false →
     acts_from split kind level place (here (places kind before names)) ≡ firsts_over split kind before level place names
 firsts-same split kind before level place [] f = refl
-firsts-same split kind before level place (name ∷ names) f = go (placed kind before name) f (λ k. firsts-same split kind before level (place + 1) names k)
+firsts-same split kind before level place (name ∷ names) f =
+    go (placed kind before name) f (λ k. firsts-same split kind before level (place + 1) names k)
   where
     go : (d : Option Device) → (is_none d || is_unfit kind before names) ≡ false →
-        (is_unfit kind before names ≡ false → acts_from split kind level (place + 1) (here (places kind before names)) ≡ firsts_over split kind before level (place + 1) names) →
+        (is_unfit kind before names ≡ false →
+        acts_from split kind level (place + 1) (here (places kind before names))
+        ≡ firsts_over split kind before level (place + 1) names) →
         acts_from split kind level place (cons_option d (here (places kind before names)))
-        ≡ cons_option (option_map (act_task split kind level place) d) (firsts_over split kind before level (place + 1) names)
+        ≡ cons_option (option_map (act_task split kind level place) d)
+        (firsts_over split kind before level (place + 1) names)
     go None f ih = cc
     go (Some d) f ih = ap (λ ts. act_task split kind level place d ∷ ts) (ih f)
 
-ons-same : (kind : Kind) (before : History) (level place : ℕ) (names : List (List ℕ)) → is_unfit kind before names ≡ false →
+ons-same : (kind : Kind) (before : History) (level place : ℕ) (names : List (List ℕ)) →
+    is_unfit kind before names ≡ false →
     ons_from level place (here (places kind before names)) ≡ ons_over kind before level place names
 ons-same kind before level place [] f = refl
-ons-same kind before level place (name ∷ names) f = go (placed kind before name) f (λ k. ons-same kind before level (place + 1) names k)
+ons-same kind before level place (name ∷ names) f =
+    go (placed kind before name) f (λ k. ons-same kind before level (place + 1) names k)
   where
     go : (d : Option Device) → (is_none d || is_unfit kind before names) ≡ false →
-        (is_unfit kind before names ≡ false → ons_from level (place + 1) (here (places kind before names)) ≡ ons_over kind before level (place + 1) names) →
+        (is_unfit kind before names ≡ false →
+        ons_from level (place + 1) (here (places kind before names))
+        ≡ ons_over kind before level (place + 1) names) →
         ons_from level place (cons_option d (here (places kind before names)))
         ≡ cons_option (option_and_then (on_task level place) d) (ons_over kind before level (place + 1) names)
     go None f ih = cc
     go (Some d) f ih = ap (λ ts. cons_option (on_task level place d) ts) (ih f)
 
-split-same : (kind : Kind) (before : History) (names : List (List ℕ)) → is_unfit kind before names ≡ false → is_split kind (here (places kind before names)) ≡ is_split_over kind names
+split-same : (kind : Kind) (before : History) (names : List (List ℕ)) → is_unfit kind before names ≡ false →
+    is_split kind (here (places kind before names)) ≡ is_split_over kind names
 split-same Kind.Reboot before [] f = refl
 split-same Kind.Reboot before (a ∷ []) f = go (placed Kind.Reboot before a)
   where
@@ -70,7 +81,8 @@ split-same Kind.Reboot before (a ∷ []) f = go (placed Kind.Reboot before a)
     go (Some d) = refl
 split-same Kind.Reboot before (a ∷ b ∷ names) f = go (placed Kind.Reboot before a) (placed Kind.Reboot before b) f
   where
-    go : (d e : Option Device) → (is_none d || (is_none e || is_unfit Kind.Reboot before names)) ≡ false → is_split Kind.Reboot (cons_option d (cons_option e (here (places Kind.Reboot before names)))) ≡ true
+    go : (d e : Option Device) → (is_none d || (is_none e || is_unfit Kind.Reboot before names)) ≡ false →
+        is_split Kind.Reboot (cons_option d (cons_option e (here (places Kind.Reboot before names)))) ≡ true
     go None e f = cc
     go (Some d) None f = cc
     go (Some d) (Some e) f = refl
@@ -86,7 +98,8 @@ none-split Kind.Off = refl
 none-split Kind.List = refl
 none-split Kind.Status = refl
 
-pub rank-same : (kind : Kind) (before : History) (l : Level) → rank_of kind before (plan_level before l) ≡ rank_over kind before l
+pub rank-same : (kind : Kind) (before : History) (l : Level) →
+    rank_of kind before (plan_level before l) ≡ rank_over kind before l
 rank-same kind before l = go (is_unfit kind before l.devices) refl
   where
     ps : List (Option Device)
@@ -94,10 +107,21 @@ rank-same kind before l = go (is_unfit kind before l.devices) refl
 
     go : (b : Bool) → is_unfit kind before l.devices ≡ b → rank kind l.index ps ≡ rank_over kind before l
     go true p = rw (unfit-same kind before l.devices, p, none-split kind) refl
-    go false p = rw (unfit-same kind before l.devices, p, split-same kind before l.devices p, firsts-same (is_split_over kind l.devices) kind before l.index 0 l.devices p, ons-same kind before l.index 0 l.devices p) refl
+    go false p =
+        rw (
+          unfit-same kind before l.devices,
+          p,
+          split-same kind before l.devices p,
+          firsts-same (is_split_over kind l.devices) kind before l.index 0 l.devices p,
+          ons-same kind before l.index 0 l.devices p,
+        ) refl
 
 -- the levels of a plan, one after another
-pub survey-next : (o : Operation) (m : ℕ) (acts : List Act) (s : Survey) (kind : Kind) (before : History) (l : Option Level) (ls : List Level) →
-    surveyed_all o m acts s (ranks_for kind before (before_it l ls)) ≡ surveyed_all o m acts (surveyed_any o m acts s (option_map (rank_over kind before) l)) (ranks_for kind before ls)
+pub survey-next : (o : Operation) (m : ℕ) (acts : List Act) (s : Survey) (kind : Kind) (before : History)
+    (l : Option Level) (ls : List Level) →
+    surveyed_all o m acts s (ranks_for kind before (before_it l ls))
+    ≡ surveyed_all o m acts (surveyed_any o m acts s (option_map (rank_over kind before) l))
+    (ranks_for kind before ls)
 survey-next o m acts s kind before None ls = refl
-survey-next o m acts s kind before (Some l) ls = ap (λ r. surveyed_all o m acts (surveyed o m acts s r) (ranks_for kind before ls)) (rank-same kind before l)
+survey-next o m acts s kind before (Some l) ls =
+    ap (λ r. surveyed_all o m acts (surveyed o m acts s r) (ranks_for kind before ls)) (rank-same kind before l)

@@ -37,7 +37,8 @@ use Rattle.fnc_judge.specs.Testing.{moment_by, pending_after, runs_here}
 -- the last entry
 pub last-entry : (h : History) (n : ℕ) → n + 1 ≡ length h → entry_at n h ≡ first_of h
 last-entry [] n p = absurd (omega (arith, p))
-last-entry (e ∷ before) n p = let same : (n == length before) ≡ true = eq-eqb n (length before) (omega (arith, p)) in rw same refl
+last-entry (e ∷ before) n p =
+    let same : (n == length before) ≡ true = eq-eqb n (length before) (omega (arith, p)) in rw same refl
 
 pub no-entry : (h : History) → length h ≡ 0 → first_of h ≡ None
 no-entry [] p = refl
@@ -62,16 +63,21 @@ any-find p (x ∷ xs) = go (p x) (any-find p xs)
 
 -- the runs of a slot, one entry after another
 pub runs-more : (o : ℕ) (s : Slot) (m : ℕ) (event : Event) (h : History) →
-    cond (runs_here o s event) (runs s (acts o h) + 1) (runs s (acts o h)) ≡ runs s (acts o (record { moment = m; event = event } ∷ h))
+    cond (runs_here o s event) (runs s (acts o h) + 1) (runs s (acts o h))
+    ≡ runs s (acts o (record { moment = m; event = event } ∷ h))
 runs-more o s m (Event.Start start) h = go (o == start.req.0) (same_slot s start.slot) refl
   where
-    go : (b c : Bool) → same_slot s start.slot ≡ c → cond (b && c) (runs s (acts o h) + 1) (runs s (acts o h)) ≡ runs s (cons_act (cond b (Some (Act.Begun m start.run.0 start.slot)) None) (acts o h))
+    go : (b c : Bool) → same_slot s start.slot ≡ c →
+        cond (b && c) (runs s (acts o h) + 1) (runs s (acts o h))
+        ≡ runs s (cons_act (cond b (Some (Act.Begun m start.run.0 start.slot)) None) (acts o h))
     go true true e = rw e refl
     go true false e = rw e refl
     go false c e = refl
 runs-more o s m (Event.Exit ended) h = go (slot_of_run ended.run.0 (acts o h))
   where
-    go : (x : Option Slot) → runs s (acts o h) ≡ runs s (cons_act (option_map (λ slot. Act.Ended m slot ended.exit ended.listed) x) (acts o h))
+    go : (x : Option Slot) →
+        runs s (acts o h) ≡ runs s
+        (cons_act (option_map (λ slot. Act.Ended m slot ended.exit ended.listed) x) (acts o h))
     go None = refl
     go (Some w) = refl
 runs-more o s m _ h = refl
@@ -80,6 +86,7 @@ pub runs-most : (o : ℕ) (s : Slot) (h : History) → runs s (acts o h) ≤ len
 runs-most o s [] = omega arith
 runs-most o s (e ∷ before) = go (runs_here o s e.event) (runs-more o s e.moment e.event before) (runs-most o s before)
   where
-    go : (b : Bool) → cond b (runs s (acts o before) + 1) (runs s (acts o before)) ≡ runs s (acts o (e ∷ before)) → runs s (acts o before) ≤ length before → runs s (acts o (e ∷ before)) ≤ length (e ∷ before)
+    go : (b : Bool) → cond b (runs s (acts o before) + 1) (runs s (acts o before)) ≡ runs s (acts o (e ∷ before)) →
+        runs s (acts o before) ≤ length before → runs s (acts o (e ∷ before)) ≤ length (e ∷ before)
     go true p k = omega (arith, p, k)
     go false p k = omega (arith, p, k)

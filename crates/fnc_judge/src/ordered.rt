@@ -9,6 +9,7 @@ ghost use Rattle.fnc_journal.specs.Operations as Operations;
 ghost use Rattle.fnc_judge.specs.Testing.{moment_by};
 
 use crate::numbers::counted;
+use fnc_journal::limits::{DAY, GREATEST_MOMENT};
 use fnc_journal::{Entry, Event, Journal, Request, Scope, Start};
 use fnc_search::{
     Past, Target, is_current, level_of, oldest, operation_of, pattern_at, registration, request,
@@ -81,7 +82,7 @@ fn is_request_in_order(request: &Request, past: &Past<'_>) -> bool
     request.req.0 == counted(past).asks
         && request.kind.may_be_asked()
         && 1 <= request.total
-        && request.total <= 86_400_000
+        && request.total <= DAY
         && is_in_place(past, request.scope, request.target.as_str())
 }
 
@@ -111,11 +112,11 @@ pub(crate) fn in_order(event: &Event, past: &Past<'_>) -> bool
     }
 }
 
-/// Moments do not fall and end at 10^15, and the entry is in order.
+/// Moments do not fall and end at the greatest one, and the entry is in order.
 pub(crate) fn order(entry: &Entry, past: &Past<'_>) -> bool
     ensures { result ≡ Lawful.order entry.now past.now }
 {
-    entry.moment <= 1_000_000_000_000_000
+    entry.moment <= GREATEST_MOMENT
         && last_moment(past) <= entry.moment
         && in_order(&entry.event, past)
 }

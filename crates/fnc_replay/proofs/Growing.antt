@@ -24,7 +24,7 @@ grows-served line old new s =
       more = s.starts.some.starts ++ (e.replies ++ (input ∷ e.advance));
       history =
           s.starts.some.history ∙ ap (λ (h : History). s.starts.some.starts ++ h)
-              (e.history ∙ sym (append_assoc e.replies (input ∷ e.advance) old.history))
+          (e.history ∙ sym (append_assoc e.replies (input ∷ e.advance) old.history))
           ∙ sym (append_assoc s.starts.some.starts (e.replies ++ (input ∷ e.advance)) old.history);
       limit = s.starts.some.limit ∙ e.limit;
     }

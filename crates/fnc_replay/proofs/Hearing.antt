@@ -64,7 +64,7 @@ filter-last (y ∷ xs) x = go (is_line y) (filter-last xs x)
   where
     go : (b : Bool) → filter is_line (xs ++ x ∷ []) ≡ filter is_line xs ++ filter is_line (x ∷ []) →
         cond b (y ∷ filter is_line (xs ++ x ∷ [])) (filter is_line (xs ++ x ∷ []))
-            ≡ cond b (y ∷ filter is_line xs) (filter is_line xs) ++ filter is_line (x ∷ [])
+        ≡ cond b (y ∷ filter is_line xs) (filter is_line xs) ++ filter is_line (x ∷ [])
     go true e = ap (λ zs. y ∷ zs) e
     go false e = e
 
@@ -113,9 +113,9 @@ lines-served : (line : Happening) (lines : List Happening) (old new : Cored) →
 lines-served line lines old new a l s =
     subst (λ (h : History). AreLines h (line ∷ lines)) (sym whole)
     (lines-outputs s.mid.last s.starts.some.starts _ (line ∷ lines)
-        (outputs-starts s.mid.last s.starts.some.starts s.starts.some.started)
+    (outputs-starts s.mid.last s.starts.some.starts s.starts.some.started)
     (lines-outputs s.takes.entry.moment s.takes.enters.replies _ (line ∷ lines)
-        (outputs-replies s.takes.entry.moment s.takes.enters.replies s.takes.enters.answered) here))
+    (outputs-replies s.takes.entry.moment s.takes.enters.replies s.takes.enters.answered) here))
   where
     met : History
     met = s.takes.enters.advance ++ old.history
@@ -144,9 +144,9 @@ last-served line old new s = ap (λ (o : Option ℕ). unwrap_or o 0) found ∙ s
     found =
         ap last_input (s.starts.some.history ∙ ap (λ (h : History). s.starts.some.starts ++ h) s.takes.enters.history)
         ∙ last_input-outputs s.mid.last s.starts.some.starts _
-            (outputs-starts s.mid.last s.starts.some.starts s.starts.some.started)
+        (outputs-starts s.mid.last s.starts.some.starts s.starts.some.started)
         ∙ last_input-outputs s.takes.entry.moment s.takes.enters.replies _
-            (outputs-replies s.takes.entry.moment s.takes.enters.replies s.takes.enters.answered)
+        (outputs-replies s.takes.entry.moment s.takes.enters.replies s.takes.enters.answered)
         ∙ rw is refl
 
 -- a line that finds no room
@@ -160,7 +160,7 @@ lacks-room line lines full old new a l k = (
     entry = k.entry;
     gives =
         subst (λ (h : History). Gives line h (last_come h) (line_number (length lines)) k.entry)
-            (sym k.advances.history)
+        (sym k.advances.history)
         (gives-heard line lines old k.entry k.entry.moment k.advances.advance k.advances.at_once a l k.is);
     is_full = k.is_full;
   },
@@ -198,12 +198,12 @@ heard-nothing : (start before after : Option (List Happening)) (made : ℕ) (old
     new ≡ old → Gains before after (Happening.Again ∷ []) → HeardSoFar start after (made + 1) new
 heard-nothing start before after made old new k e g =
     subst (λ (v : Cored). HeardSoFar start after (made + 1) v) (sym e) (record {
-  events = k.events ++ Happening.Again ∷ [];
-  gained = gains-gains start before after k.events (Happening.Again ∷ []) k.gained g;
-  polled = let n = length-append k.events (Happening.Again ∷ []) in let m = k.polled in omega (arith, n, m);
-  inputs = subst (AreLines old.history) (sym (newest-last k.events Happening.Again)) k.inputs;
-  last = k.last;
-})
+      events = k.events ++ Happening.Again ∷ [];
+      gained = gains-gains start before after k.events (Happening.Again ∷ []) k.gained g;
+      polled = let n = length-append k.events (Happening.Again ∷ []) in let m = k.polled in omega (arith, n, m);
+      inputs = subst (AreLines old.history) (sym (newest-last k.events Happening.Again)) k.inputs;
+      last = k.last;
+    })
 
 -- a line was served
 heard-line : (start : Option (List Happening)) (source : Change SourceTold) (made : ℕ) (old new : Cored) →

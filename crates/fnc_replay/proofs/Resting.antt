@@ -201,9 +201,11 @@ rests-served line old mid new r t s k = record {
     driven : DrivenInputs (s.some.starts ++ (t.enters.replies ++ input ∷ lead))
     driven =
         inputs-outputs t.entry.moment s.some.starts (t.enters.replies ++ input ∷ lead) starts
-        (inputs-outputs t.entry.moment t.enters.replies (input ∷ lead) outputs
-        (served, inputs-outputs t.entry.moment t.enters.advance old.history
-            (outputs-replies t.entry.moment t.enters.advance t.enters.at_once) r.inputs))
+        (inputs-outputs t.entry.moment t.enters.replies (input ∷ lead) outputs (
+          served,
+          inputs-outputs t.entry.moment t.enters.advance old.history
+              (outputs-replies t.entry.moment t.enters.advance t.enters.at_once) r.inputs,
+        ))
 
     last_here : last_input (input ∷ lead) ≡ Some t.entry.moment
     last_here = let is : is_input input.event ≡ true = is-line in rw is refl
@@ -237,9 +239,10 @@ driven-rests v r = (go r.rest, r.inputs)
 -- and after one more advance
 pub driven-passed : (line : Happening) (full : Full) (old new : Cored) → Rests old → LacksRoom line old new full →
     Sound new → Driven new.history
-driven-passed line full old new r p k =
-    (subst (λ h. rests None h ≡ true) (sym p.advances.history) (go r.rest),
-    subst DrivenInputs (sym p.advances.history) driven)
+driven-passed line full old new r p k = (
+  subst (λ h. rests None h ≡ true) (sym p.advances.history) (go r.rest),
+  subst DrivenInputs (sym p.advances.history) driven,
+)
   where
     driven : DrivenInputs (p.advances.advance ++ old.history)
     driven =
@@ -254,14 +257,14 @@ driven-passed line full old new r p k =
     rest t false e =
         let other : old.last ≡ p.entry.moment → ⊥ = false-eqb old.last p.entry.moment (sym e) in
         rests-end old.last p.entry.moment p.advances.advance old.history
-            (omega (arith, p.later, other)) p.advances.at_once t
+        (omega (arith, p.later, other)) p.advances.at_once t
 
     go : (old.history ≡ []) ⊎ AtRest old.last old.history → rests None (p.advances.advance ++ old.history) ≡ true
     go (inl e) =
         let none : p.advances.advance ≡ [] =
         replies-none p.entry.moment p.advances.advance
-            (subst Lawful (empty-append p.advances.advance old.history e)
-            (subst Lawful p.advances.history k.lawful)) p.advances.at_once in
+        (subst Lawful (empty-append p.advances.advance old.history e)
+        (subst Lawful p.advances.history k.lawful)) p.advances.at_once in
         ap (rests None) (empty-append p.advances.advance old.history e ∙ none)
     go (inr t) = rest t (old.last == p.entry.moment) refl
 
@@ -312,7 +315,7 @@ full-cored : (v : Cored) (j : Journaled) (full : Full) → j.history ≡ v.histo
     IsFull v full.need full → IsFull (cored j) full.need full
 full-cored v j full e l f =
     let moved : (h : History) (limit : ℕ) → h ≡ v.history → limit ≡ v.limit → IsFull v full.need full →
-        IsFull (record { history = h; last = last_moment h; limit = limit }) full.need full =
+    IsFull (record { history = h; last = last_moment h; limit = limit }) full.need full =
     λ h limit e l f. record {
       says =
           f.says ∙ ap₂ (λ (x : History) (n : ℕ).

@@ -46,8 +46,7 @@ pub fn replay<S: Source + Drop, K: Sink + Drop>(
     ensures limit { IfSome result.journal (λ j. j.limit ≡ limit) }
     ensures text { let of_sink = sink_told K.held K.unsent K.faults in IfSome result.journal (λ j.
         Wrote result.outcome (change (of_sink sink) (of_sink result.sink)) j.history) }
-    ensures cause {
-        let of_source = source_told S.given S.left S.faults in
+    ensures cause { let of_source = source_told S.given S.left S.faults in
         let of_sink = sink_told K.held K.unsent K.faults in
         IfSome result.journal (λ j.
         HasCause result.outcome (change (of_source source) (of_source result.source))

@@ -50,8 +50,7 @@ fn serve_long(desk: &mut Desk) -> Taken
 /// Polls the source once, and serves what it gave.
 pub(crate) fn take<S: Source>(source: &mut S, desk: &mut Desk, line: &mut LineBuf) -> Taken
     requires { line.old.bytes ≡ [] }
-    ensures takes {
-        let of_source = source_told S.given S.left S.faults in
+    ensures takes { let of_source = source_told S.given S.left S.faults in
         Takes result (change (of_source source.old) (of_source source.new)) desk.old desk.new }
     ensures reads { S.faults source.old ≤ S.faults source.new }
     ensures empty { line.new.bytes ≡ [] }

@@ -28,12 +28,10 @@ use fnc_outside::{LineBuf, Sink, Source};
 /// Sends on all that was written, before a read that may wait. None where the session goes on.
 fn send_on<K: Sink>(sink: &mut K) -> Option<Outcome>
     ensures sent { IfNone result (K.unsent sink.new ≡ 0) }
-    ensures text {
-        let of_sink = sink_told K.held K.unsent K.faults in
+    ensures text { let of_sink = sink_told K.held K.unsent K.faults in
         (start : SinkTold) (h : History) → HoldsSoFar (change start (of_sink sink.old)) h
         → Puts result (change start (of_sink sink.new)) h }
-    ensures cause {
-        let of_sink = sink_told K.held K.unsent K.faults in
+    ensures cause { let of_sink = sink_told K.held K.unsent K.faults in
         IfSome result (λ o. IsWriteFault o (change (of_sink sink.old) (of_sink sink.new))) }
     ensures writes { K.faults sink.old ≤ K.faults sink.new }
 {
@@ -46,12 +44,10 @@ fn send_on<K: Sink>(sink: &mut K) -> Option<Outcome>
 /// Writes the end line.
 fn finish<K: Sink>(journal: &Journal, sink: &mut K) -> Outcome
     requires { Lawful journal.now.history }
-    ensures text {
-        let of_sink = sink_told K.held K.unsent K.faults in
+    ensures text { let of_sink = sink_told K.held K.unsent K.faults in
         (start : SinkTold) → HoldsSoFar (change start (of_sink sink.old)) journal.now.history
         → Printed result (change start (of_sink sink.new)) journal.now.history }
-    ensures cause {
-        let of_sink = sink_told K.held K.unsent K.faults in
+    ensures cause { let of_sink = sink_told K.held K.unsent K.faults in
         EndsWriting result (change (of_sink sink.old) (of_sink sink.new)) }
     ensures writes { K.faults sink.old ≤ K.faults sink.new }
 {
@@ -65,12 +61,10 @@ fn finish<K: Sink>(journal: &Journal, sink: &mut K) -> Outcome
 fn write_on<K: Sink>(journal: &Journal, from: u32, sink: &mut K) -> Option<Outcome>
     requires lawful { Lawful journal.now.history }
     requires within { from ≤ length journal.now.history }
-    ensures text {
-        let of_sink = sink_told K.held K.unsent K.faults in
+    ensures text { let of_sink = sink_told K.held K.unsent K.faults in
         (start : SinkTold) → HoldsSoFar (change start (of_sink sink.old)) (prefix from journal.now.history)
         → Puts result (change start (of_sink sink.new)) journal.now.history }
-    ensures cause {
-        let of_sink = sink_told K.held K.unsent K.faults in
+    ensures cause { let of_sink = sink_told K.held K.unsent K.faults in
         IfSome result (λ o. IsWriteFault o (change (of_sink sink.old) (of_sink sink.new))) }
     ensures writes { K.faults sink.old ≤ K.faults sink.new }
 {
@@ -84,8 +78,7 @@ fn write_on<K: Sink>(journal: &Journal, from: u32, sink: &mut K) -> Option<Outco
 fn write_full<K: Sink>(journal: &Journal, from: u32, sink: &mut K, full: Full) -> Outcome
     requires lawful { Lawful journal.now.history }
     requires within { from ≤ length journal.now.history }
-    ensures text {
-        let of_sink = sink_told K.held K.unsent K.faults in
+    ensures text { let of_sink = sink_told K.held K.unsent K.faults in
         (start : SinkTold) → HoldsSoFar (change start (of_sink sink.old)) (prefix from journal.now.history)
         → Printed result (change start (of_sink sink.new)) journal.now.history }
     ensures outcome { result ≡ Outcome.JournalFull full }
@@ -109,12 +102,10 @@ fn after_failed_flush(outcome: Outcome) -> Outcome
 
 /// Sends on all that was written, before the outcome.
 pub(crate) fn close<K: Sink>(sink: &mut K, outcome: Outcome) -> Outcome
-    ensures text {
-        let of_sink = sink_told K.held K.unsent K.faults in
+    ensures text { let of_sink = sink_told K.held K.unsent K.faults in
         (start : SinkTold) (h : History) → start.faults ≤ K.faults sink.old
         → Printed outcome (change start (of_sink sink.old)) h → Wrote result (change start (of_sink sink.new)) h }
-    ensures closes {
-        let of_sink = sink_told K.held K.unsent K.faults in
+    ensures closes { let of_sink = sink_told K.held K.unsent K.faults in
         Closes outcome result (change (of_sink sink.old) (of_sink sink.new)) }
     ensures writes { K.faults sink.old ≤ K.faults sink.new }
 {
@@ -133,13 +124,11 @@ pub(crate) fn turn<S: Source, K: Sink>(
     line: &mut LineBuf,
 ) -> Option<Outcome>
     requires { line.old.bytes ≡ [] }
-    ensures text {
-        let of_sink = sink_told K.held K.unsent K.faults in
+    ensures text { let of_sink = sink_told K.held K.unsent K.faults in
         (start : SinkTold) → HoldsSoFar (change start (of_sink sink.old)) desk.old.history
         → Puts result (change start (of_sink sink.new)) desk.new.history }
     ensures turns { Turns result desk.old desk.new }
-    ensures cause {
-        let of_source = source_told S.given S.left S.faults in
+    ensures cause { let of_source = source_told S.given S.left S.faults in
         let of_sink = sink_told K.held K.unsent K.faults in
         IfSome result (λ o. EndsBy o (change (of_source source.old) (of_source source.new))
         (change (of_sink sink.old) (of_sink sink.new)) desk.new) }

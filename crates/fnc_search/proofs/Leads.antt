@@ -15,9 +15,18 @@ lead-more r m (Event.Ask ask) h = go (asked r h) (r == ask.req.0)
     go : (a : Option Asked) (b : Bool) →
         or_here (option_map (λ (x : Asked). x.lead) a) (cond b (Some ask.lead.0) None)
         ≡ option_map (λ (x : Asked). x.lead)
-            (or_here a (cond b (Some
-            (record { moment = m; lead = ask.lead.0; kind = ask.kind; target = ask.target; total = ask.total; coin =
-            ask.coin; scope = ask.scope; before = h })) None))
+        (or_here a (cond b (Some
+        (record {
+          moment = m;
+          lead = ask.lead.0;
+          kind = ask.kind;
+          target = ask.target;
+          total = ask.total;
+          coin =
+              ask.coin;
+          scope = ask.scope;
+          before = h;
+        })) None))
     go None true = refl
     go None false = refl
     go (Some a) true = refl

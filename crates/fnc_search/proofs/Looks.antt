@@ -71,7 +71,7 @@ use Rattle.fnc_search.specs.Seen.{
 
 pub slot-more : (o n m : ℕ) (event : Event) (h : History) →
     or_here (slot_of_run n (acts o h)) (begun_slot o n event)
-        ≡ slot_of_run n (acts o (record { moment = m; event = event } ∷ h))
+    ≡ slot_of_run n (acts o (record { moment = m; event = event } ∷ h))
 slot-more o n m (Event.Start start) h = go (o == start.req.0) (n == start.run.0) refl
   where
     go : (b c : Bool) → (n == start.run.0) ≡ c →
@@ -103,7 +103,7 @@ seen-act t over xs (Act.Ended m slot exit listed) =
     go : (b : Bool) → same_slot t.slot slot ≡ b → (c : Bool) → is_in_time_by t over (begun_at t.slot xs) m ≡ c →
         (d : Bool) → is_success t.kind exit ≡ d →
         seen_with t over (seen_of t over xs) (Some (Act.Ended m slot exit listed))
-            ≡ seen_of t over (Act.Ended m slot exit listed ∷ xs)
+        ≡ seen_of t over (Act.Ended m slot exit listed ∷ xs)
     go false p c q d r = rw p refl
     go true p false q d r = rw (p, q) refl
     go true p true q true r = rw (p, q, r) refl
@@ -111,7 +111,7 @@ seen-act t over xs (Act.Ended m slot exit listed) =
 
 pub seen-more : (t : Task) (over o m : ℕ) (event : Event) (h : History) →
     seen_with t over (seen_of t over (acts o h)) (act_here o m (acts o h) event)
-        ≡ seen_of t over (acts o (record { moment = m; event = event } ∷ h))
+    ≡ seen_of t over (acts o (record { moment = m; event = event } ∷ h))
 seen-more t over o m event h = go (act_here o m (acts o h) event)
   where
     go : (a : Option Act) → seen_with t over (seen_of t over (acts o h)) a ≡ seen_of t over (cons_act a (acts o h))
@@ -171,7 +171,7 @@ acts-none o (e ∷ before) p = go (first_start_of o before) refl (starts_for o e
     go : (x : Option ℕ) → first_start_of o before ≡ x → (b : Bool) → starts_for o e.event ≡ b →
         or_here x (cond b (Some (length before)) None) ≡ None →
         (first_start_of o before ≡ None → acts o before ≡ []) →
-            cons_act (act_here o e.moment (acts o before) e.event) (acts o before) ≡ []
+        cons_act (act_here o e.moment (acts o before) e.event) (acts o before) ≡ []
     go (Some n) q b r p ih =
         let none : Some n ≡ None = sym (some-earlier n (cond b (Some (length before)) None)) ∙ p in cc
     go None q true r p ih = cc
@@ -199,7 +199,7 @@ acts-before o n (e ∷ before) p = go (first_start_of o before) refl (starts_for
     go : (x : Option ℕ) → first_start_of o before ≡ x → (b : Bool) →
         or_here x (cond b (Some (length before)) None) ≡ Some n →
         (first_start_of o before ≡ Some n → acts o (prefix n before) ≡ []) →
-            acts o (cond (ltb (length before) n) (e ∷ before) (prefix n before)) ≡ []
+        acts o (cond (ltb (length before) n) (e ∷ before) (prefix n before)) ≡ []
     go (Some k) q b p ih =
         let same : Some k ≡ Some n = sym (some-earlier k (cond b (Some (length before)) None)) ∙ p in
         let less : n < length before = start-inside o n before (q ∙ same) in
@@ -207,5 +207,5 @@ acts-before o n (e ∷ before) p = go (first_start_of o before) refl (starts_for
     go None q true p ih =
         let same : length before ≡ n = cc in
         rw (le-ltb (length before) n (omega (arith, same)), prefix-all before n (omega (arith, same)))
-            (acts-none o before q)
+        (acts-none o before q)
     go None q false p ih = cc

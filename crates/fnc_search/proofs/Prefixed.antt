@@ -52,7 +52,7 @@ entry_at-prefix (e ∷ before) n i l = go (ltb (length before) n) refl l (λ k. 
   where
     go : (b : Bool) → ltb (length before) n ≡ b → i < length (cond b (e ∷ before) (prefix n before)) →
         (i < length (prefix n before) → entry_at i (prefix n before) ≡ entry_at i before) →
-            entry_at i (cond b (e ∷ before) (prefix n before)) ≡ entry_at i (e ∷ before)
+        entry_at i (cond b (e ∷ before) (prefix n before)) ≡ entry_at i (e ∷ before)
     go true k l ih = refl
     go false k l ih =
         let short : length (prefix n before) ≤ length before = prefix-shorter n before in

@@ -44,7 +44,7 @@ left p k place = queued p place (later k (keyed_of p))
 pub left-all : (p : Pursued) → candidates_of p ≡ left p None 0
 left-all p =
     ap (λ (ds : List Device). queried_from 0 p.asked.before (map (candidate (wanted p) p.asked.before) ds))
-        (sym (devices-same (wanted p) p.asked.before p.asked.before))
+    (sym (devices-same (wanted p) p.asked.before p.asked.before))
     ∙ ap (queued p 0) (sym (later-none (keyed_of p)))
 
 pub first-none : (cs : List Keyed) → first_of cs ≡ None → cs ≡ []
@@ -60,8 +60,8 @@ pub rest-later : (p : Pursued) (k : Option After) (c : Keyed) → first_of (late
 rest-later p k c e =
     let split = first-some (later k (keyed_of p)) c e in
     split ∙ ap (λ cs. c ∷ cs)
-        (sym (later-next k (keyed_of p) c (drop 1 (later k (keyed_of p)))
-        (ordered (wanted p) p.asked.before p.asked.before) split))
+    (sym (later-next k (keyed_of p) c (drop 1 (later k (keyed_of p)))
+    (ordered (wanted p) p.asked.before p.asked.before) split))
 
 pub left-none : (p : Pursued) (k : Option After) (place : ℕ) → first_of (later k (keyed_of p)) ≡ None →
     left p k place ≡ []

@@ -67,7 +67,7 @@ find-with i l (k ∷ ks) =
     go : (b c : Bool) → (l.index == k.index) ≡ c → (d : Bool) → (i == l.index) ≡ d → (e : Bool) → (i == k.index) ≡ e →
         of_index i (with_level l ks) ≡ cond (i == l.index) (Some l) (of_index i ks) →
         of_index i (cond b (l ∷ k ∷ ks) (cond c (l ∷ ks) (k ∷ with_level l ks)))
-            ≡ cond d (Some l) (cond e (Some k) (of_index i ks))
+        ≡ cond d (Some l) (cond e (Some k) (of_index i ks))
     go true c p true q e s ih = rw q refl
     go true c p false q e s ih = rw (q, s) refl
     go false true p true q e s ih = rw q refl
@@ -111,7 +111,7 @@ find-without i index (k ∷ ks) r =
 -- the level of an index, one entry after another
 pub level-more : (target : LevelTarget) (i m : ℕ) (event : Event) (h : History) →
     level_step target i (length h) event (of_index i (levels target h))
-        ≡ of_index i (levels target (record { moment = m; event = event } ∷ h))
+    ≡ of_index i (levels target (record { moment = m; event = event } ∷ h))
 level-more target i m (Event.Level set) h =
     go (same_target target set.target) (i == set.index)
     (find-with i (record { at = length h; index = set.index; devices = set.devices }) (levels target h))
@@ -121,9 +121,9 @@ level-more target i m (Event.Level set) h =
         ≡ cond c (Some (record { at = length h; index = set.index; devices = set.devices }))
         (of_index i (levels target h)) →
         cond (b && c) (Some (record { at = length h; index = set.index; devices = set.devices }))
-            (of_index i (levels target h))
+        (of_index i (levels target h))
         ≡ of_index i (cond b (with_level (record { at = length h; index = set.index; devices = set.devices })
-            (levels target h)) (levels target h))
+        (levels target h)) (levels target h))
     go true true f = sym f
     go true false f = sym f
     go false c f = refl
@@ -134,7 +134,7 @@ level-more target i m (Event.LevelGone cleared) h =
     go : (b c : Bool) → of_index i (without_level cleared.index (levels target h))
         ≡ cond c None (of_index i (levels target h)) →
         cond (b && c) None (of_index i (levels target h))
-            ≡ of_index i (cond b (without_level cleared.index (levels target h)) (levels target h))
+        ≡ of_index i (cond b (without_level cleared.index (levels target h)) (levels target h))
     go true true f = sym f
     go true false f = sym f
     go false c f = refl
@@ -172,13 +172,13 @@ below-top target (e ∷ before) = go e.event (below-top target before)
   where
     go : (event : Event) → Below (top target before) (levels target before) →
         Below (max (top_here target event) (top target before))
-            (levels_after target (length before) event (levels target before))
+        (levels_after target (length before) event (levels target before))
     go (Event.Level set_) r = set (same_target target set_.target) r
       where
         set : (b : Bool) → Below (top target before) (levels target before) →
             Below (max (cond b (set_.index + 1) 0) (top target before))
-                (cond b (with_level (record { at = length before; index = set_.index; devices = set_.devices })
-                (levels target before)) (levels target before))
+            (cond b (with_level (record { at = length before; index = set_.index; devices = set_.devices })
+            (levels target before)) (levels target before))
         set true r =
             below-with _ _ (levels target before) (omega arith)
             (below-higher _ _ (levels target before) (omega arith) r)
@@ -226,7 +226,7 @@ from-more i (k ∷ ks) r = go (ltb k.index i) refl (i == k.index) refl (from-mor
     go false p true q ih =
         let same : i ≡ k.index = eqb-true i k.index q in
         rw (lt-ltb k.index (i + 1) (omega (arith, same)))
-            (ap (λ xs. k ∷ xs) (sym (from-above i ks (subst (λ n. Above n ks) (sym same) r.0))))
+        (ap (λ xs. k ∷ xs) (sym (from-above i ks (subst (λ n. Above n ks) (sym same) r.0))))
     go false p false q ih =
         let most : i ≤ k.index = ltb-false k.index i p in
         let other : i ≡ k.index → ⊥ = false-eqb i k.index (sym q) in

@@ -59,5 +59,5 @@ candidates-all p =
 -- the devices of those that are later, with the first of them in front
 pub devices-next : (p : Pursued) (k : Option After) (c : Keyed) → first_of (later k (keyed_of p)) ≡ Some c →
     map (λ (c : Keyed). c.device) (later k (keyed_of p))
-        ≡ c.device ∷ map (λ (c : Keyed). c.device) (later (Some (key c)) (keyed_of p))
+    ≡ c.device ∷ map (λ (c : Keyed). c.device) (later (Some (key c)) (keyed_of p))
 devices-next p k c e = ap (λ cs. map (λ (c : Keyed). c.device) cs) (rest-later p k c e)

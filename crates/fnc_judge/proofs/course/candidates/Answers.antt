@@ -17,7 +17,8 @@ loop-place-init c =
     record {
       all =
           ap (coursed_all (operation o) c.args.moment (acts o.req c.args.past.now) start) (left-all o)
-          ∙ ap (λ s. coursed_all (operation o) c.args.moment (acts o.req c.args.past.now) s (left o None 0)) (sym c.start-course.ensures);
+          ∙ ap (λ s. coursed_all (operation o) c.args.moment (acts o.req c.args.past.now) s (left o None 0))
+          (sym c.start-course.ensures);
       room = let all = room-all o in omega (arith, all);
       few = omega (arith, first);
     }
@@ -31,18 +32,26 @@ pub loop-place-preserved : goal.loop-place-preserved
 loop-place-preserved c =
     let o = c.args.operation.now in
     let xs = acts o.req c.args.past.now in
-    let found : first_of (later c.loop-place.after (keyed_of o)) ≡ Some c.in-Some.candidate = sym c.next_candidate.ensures ∙ c.in-Some.is in
-    let more = c.with_candidate-course.ensures ∙ ap (λ (d : Device). coursed_any (operation o) c.args.moment xs c.loop-place.course (queried_at o c.loop-place.place d)) c.device.ensures in
+    let found : first_of (later c.loop-place.after (keyed_of o)) ≡ Some c.in-Some.candidate =
+    sym c.next_candidate.ensures ∙ c.in-Some.is in
+    let more = c.with_candidate-course.ensures
+    ∙ ap (λ (d : Device). coursed_any (operation o) c.args.moment xs c.loop-place.course
+    (queried_at o c.loop-place.place d)) c.device.ensures in
     let fewer = room-more o c.loop-place.after c.in-Some.candidate found in
     let later-key = ap (λ (k : After). length (later (Some k) (keyed_of o))) c.key.ensures in
     let index = ap (λ (s : Course). s.index) more in
-    let most = index-more (operation o) c.args.moment xs c.loop-place.course (queried_at o c.loop-place.place c.in-Some.candidate.device) (c.loop-place.place + 1) c.loop-place.invariant.few in
+    let most = index-more (operation o) c.args.moment xs c.loop-place.course
+    (queried_at o c.loop-place.place c.in-Some.candidate.device)
+    (c.loop-place.place + 1) c.loop-place.invariant.few in
     record {
       all =
           c.loop-place.invariant.all
-          ∙ left-more (operation o) c.args.moment xs c.loop-place.course o c.loop-place.after c.in-Some.candidate c.loop-place.place found
-          ∙ ap (λ s. coursed_all (operation o) c.args.moment xs s (left o (Some (key c.in-Some.candidate)) (c.loop-place.place + 1))) (sym more)
-          ∙ ap (λ (k : After). coursed_all (operation o) c.args.moment xs c.with_candidate-course.result (left o (Some k) (c.loop-place.place + 1))) (sym c.key.ensures);
+          ∙ left-more (operation o) c.args.moment xs c.loop-place.course o c.loop-place.after c.in-Some.candidate
+          c.loop-place.place found
+          ∙ ap (λ s. coursed_all (operation o) c.args.moment xs s
+          (left o (Some (key c.in-Some.candidate)) (c.loop-place.place + 1))) (sym more)
+          ∙ ap (λ (k : After). coursed_all (operation o) c.args.moment xs c.with_candidate-course.result
+          (left o (Some k) (c.loop-place.place + 1))) (sym c.key.ensures);
       room = omega (arith, c.loop-place.invariant.room, fewer, later-key);
       few = omega (arith, index, most);
     }

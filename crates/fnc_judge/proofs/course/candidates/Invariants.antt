@@ -10,7 +10,8 @@ use Rattle.fnc_judge.proofs.course.candidates.Given as goal
 abbrev pub invariant-loop-place : goal.invariant-loop-place
 invariant-loop-place l = record {
   all : coursed_all (operation l.operation) l.moment (acts l.operation.req l.past) start (candidates_of l.operation)
-      ≡ coursed_all (operation l.operation) l.moment (acts l.operation.req l.past) l.course (left l.operation l.after l.place);
+      ≡ coursed_all (operation l.operation) l.moment (acts l.operation.req l.past) l.course
+      (left l.operation l.after l.place);
   room : l.place + length (later l.after (keyed_of l.operation)) ≤ length l.operation.asked.before;
   few : l.course.index ≤ l.place + 1;
 }

@@ -10,5 +10,6 @@ returns c =
     let xs = acts c.args.operation.now.req c.args.past.now in
     ap (option_map answer_of) (c.due_by.ensures
     ∙ ap (λ (s : Course). due_by c.over.result c.args.moment s.queries s.survey) c.course_of.ensures
-    ∙ ap (λ (n : ℕ). due_by n c.args.moment (course_of c.args.operation.now c.args.moment xs).queries (course_of c.args.operation.now c.args.moment xs).survey) c.over.ensures)
+    ∙ ap (λ (n : ℕ). due_by n c.args.moment (course_of c.args.operation.now c.args.moment xs).queries
+    (course_of c.args.operation.now c.args.moment xs).survey) c.over.ensures)
     ∙ due-is c.args.operation.now c.args.moment xs

@@ -21,8 +21,12 @@ pub loop-i-preserved : goal.loop-i-preserved
 loop-i-preserved c =
     let h : History = c.args.past.now in
     let e = c.entry.result.now in
-    c.with-found.ensures ∙ ap (λ a. numbered a e.event) c.loop-i.invariant ∙ numbers-more e.moment e.event (prefix c.loop-i.i h)
-    ∙ ap (λ (k : History). numbers_of k) (sym (prefix-more h c.loop-i.i e (omega (arith, c.loop-i-test.true, c.len-i-end.ensures)) c.entry.ensures))
+    c.with-found.ensures ∙ ap (λ a. numbered a e.event) c.loop-i.invariant
+    ∙ numbers-more e.moment e.event (prefix c.loop-i.i h)
+    ∙ ap (λ (k : History). numbers_of k)
+    (sym (prefix-more h c.loop-i.i e (omega (arith, c.loop-i-test.true, c.len-i-end.ensures)) c.entry.ensures))
 
 pub returns : goal.returns
-returns c = c.loop-i.invariant ∙ ap (λ (k : History). numbers_of k) (prefix-all c.args.past.now c.loop-i.i (omega (arith, c.loop-i-test.false, c.len-i-end.ensures)))
+returns c =
+    c.loop-i.invariant ∙ ap (λ (k : History). numbers_of k)
+    (prefix-all c.args.past.now c.loop-i.i (omega (arith, c.loop-i-test.false, c.len-i-end.ensures)))

@@ -5,4 +5,6 @@ use Rattle.fnc_judge.proofs.Testings.{any-find}
 use Rattle.fnc_judge.proofs.ordered.has_level.Goals as goal
 
 pub returns : goal.returns
-returns c = c.is_some.ensures ∙ ap is_some c.level_of.ensures ∙ any-find (λ (l : Level). c.args.index == l.index) (levels c.args.target.now c.args.past.now)
+returns c =
+    c.is_some.ensures ∙ ap is_some c.level_of.ensures
+    ∙ any-find (λ (l : Level). c.args.index == l.index) (levels c.args.target.now c.args.past.now)

@@ -11,7 +11,9 @@ use Rattle.fnc_judge.proofs.Waiting.{open-first, open-kept}
 use Rattle.fnc_judge.proofs.requests.find_due.Goals as goal
 
 pub loop-i-init : goal.loop-i-init
-loop-i-init c = ap (λ (k : History). find (λ p. is_due c.args.past.now c.args.moment (operation p)) (opens c.args.past.now k)) (prefix-none c.args.past.now)
+loop-i-init c =
+    ap (λ (k : History). find (λ p. is_due c.args.past.now c.args.moment (operation p)) (opens c.args.past.now k))
+    (prefix-none c.args.past.now)
 
 pub returns-in-Some : goal.returns-in-Some
 returns-in-Some c =
@@ -21,7 +23,9 @@ returns-in-Some c =
     let f : Pursued = c.in-Some.operation in
     let here : found_after due None (opened h e.event) ≡ Some f =
     ap (found_after due None) (sym c.opened_by-here.ensures) ∙ sym c.due_among.ensures ∙ c.in-Some.is in
-    sym (stops (λ (k : History). find due (opens h k)) (Some f) (open-kept due h f) h c.loop-i.i e (omega (arith, c.loop-i-test.true, c.len-i-end.ensures)) c.entry.ensures (open-first due h e (prefix c.loop-i.i h) (Some f) c.loop-i.invariant here))
+    sym (stops (λ (k : History). find due (opens h k)) (Some f) (open-kept due h f) h c.loop-i.i e
+    (omega (arith, c.loop-i-test.true, c.len-i-end.ensures)) c.entry.ensures
+    (open-first due h e (prefix c.loop-i.i h) (Some f) c.loop-i.invariant here))
 
 pub loop-i-preserved : goal.loop-i-preserved
 loop-i-preserved c =
@@ -30,7 +34,12 @@ loop-i-preserved c =
     let e = c.entry.result.now in
     let here : found_after due None (opened h e.event) ≡ None =
     ap (found_after due None) (sym c.opened_by-here.ensures) ∙ sym c.due_among.ensures ∙ c.in_default.is in
-    goes-on (λ (k : History). find due (opens h k)) None h c.loop-i.i e (omega (arith, c.loop-i-test.true, c.len-i-end.ensures)) c.entry.ensures (open-first due h e (prefix c.loop-i.i h) None c.loop-i.invariant here)
+    goes-on (λ (k : History). find due (opens h k)) None h c.loop-i.i e
+    (omega (arith, c.loop-i-test.true, c.len-i-end.ensures)) c.entry.ensures
+    (open-first due h e (prefix c.loop-i.i h) None c.loop-i.invariant here)
 
 pub returns : goal.returns
-returns c = sym c.loop-i.invariant ∙ ap (λ (k : History). find (λ p. is_due c.args.past.now c.args.moment (operation p)) (opens c.args.past.now k)) (prefix-all c.args.past.now c.loop-i.i (omega (arith, c.loop-i-test.false, c.len-i-end.ensures)))
+returns c =
+    sym c.loop-i.invariant ∙ ap
+    (λ (k : History). find (λ p. is_due c.args.past.now c.args.moment (operation p)) (opens c.args.past.now k))
+    (prefix-all c.args.past.now c.loop-i.i (omega (arith, c.loop-i-test.false, c.len-i-end.ensures)))

@@ -11,26 +11,39 @@ use Rattle.fnc_judge.proofs.Waiting.{open-first, open-kept}
 use Rattle.fnc_judge.proofs.requests.find_joinable.Goals as goal
 
 pub loop-i-init : goal.loop-i-init
-loop-i-init c = ap (λ (k : History). find (λ p. is_joinable c.args.past.now c.args.moment c.args.kind c.args.target.now (operation p)) (opens c.args.past.now k)) (prefix-none c.args.past.now)
+loop-i-init c =
+    ap (λ (k : History). find
+    (λ p. is_joinable c.args.past.now c.args.moment c.args.kind c.args.target.now (operation p))
+    (opens c.args.past.now k)) (prefix-none c.args.past.now)
 
 pub returns-in-Some : goal.returns-in-Some
 returns-in-Some c =
     let h : History = c.args.past.now in
-    let joins : Pursued → Bool = λ (p : Pursued). is_joinable h c.args.moment c.args.kind c.args.target.now (operation p) in
+    let joins : Pursued → Bool =
+    λ (p : Pursued). is_joinable h c.args.moment c.args.kind c.args.target.now (operation p) in
     let e = c.entry.result.now in
     let f : Pursued = c.in-Some.operation in
     let here : found_after joins None (opened h e.event) ≡ Some f =
     ap (found_after joins None) (sym c.opened_by-here.ensures) ∙ sym c.joinable_among.ensures ∙ c.in-Some.is in
-    sym (stops (λ (k : History). find joins (opens h k)) (Some f) (open-kept joins h f) h c.loop-i.i e (omega (arith, c.loop-i-test.true, c.len-i-end.ensures)) c.entry.ensures (open-first joins h e (prefix c.loop-i.i h) (Some f) c.loop-i.invariant here))
+    sym (stops (λ (k : History). find joins (opens h k)) (Some f) (open-kept joins h f) h c.loop-i.i e
+    (omega (arith, c.loop-i-test.true, c.len-i-end.ensures)) c.entry.ensures
+    (open-first joins h e (prefix c.loop-i.i h) (Some f) c.loop-i.invariant here))
 
 pub loop-i-preserved : goal.loop-i-preserved
 loop-i-preserved c =
     let h : History = c.args.past.now in
-    let joins : Pursued → Bool = λ (p : Pursued). is_joinable h c.args.moment c.args.kind c.args.target.now (operation p) in
+    let joins : Pursued → Bool =
+    λ (p : Pursued). is_joinable h c.args.moment c.args.kind c.args.target.now (operation p) in
     let e = c.entry.result.now in
     let here : found_after joins None (opened h e.event) ≡ None =
     ap (found_after joins None) (sym c.opened_by-here.ensures) ∙ sym c.joinable_among.ensures ∙ c.in_default.is in
-    goes-on (λ (k : History). find joins (opens h k)) None h c.loop-i.i e (omega (arith, c.loop-i-test.true, c.len-i-end.ensures)) c.entry.ensures (open-first joins h e (prefix c.loop-i.i h) None c.loop-i.invariant here)
+    goes-on (λ (k : History). find joins (opens h k)) None h c.loop-i.i e
+    (omega (arith, c.loop-i-test.true, c.len-i-end.ensures)) c.entry.ensures
+    (open-first joins h e (prefix c.loop-i.i h) None c.loop-i.invariant here)
 
 pub returns : goal.returns
-returns c = sym c.loop-i.invariant ∙ ap (λ (k : History). find (λ p. is_joinable c.args.past.now c.args.moment c.args.kind c.args.target.now (operation p)) (opens c.args.past.now k)) (prefix-all c.args.past.now c.loop-i.i (omega (arith, c.loop-i-test.false, c.len-i-end.ensures)))
+returns c =
+    sym c.loop-i.invariant ∙ ap
+    (λ (k : History). find (λ p. is_joinable c.args.past.now c.args.moment c.args.kind c.args.target.now (operation p))
+    (opens c.args.past.now k))
+    (prefix-all c.args.past.now c.loop-i.i (omega (arith, c.loop-i-test.false, c.len-i-end.ensures)))

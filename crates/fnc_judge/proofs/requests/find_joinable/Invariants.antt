@@ -8,4 +8,5 @@ use Rattle.fnc_judge.proofs.requests.find_joinable.Given as goal
 
 -- none of the operations so far can be joined
 abbrev pub invariant-loop-i : goal.invariant-loop-i
-invariant-loop-i l = find (λ p. is_joinable l.past l.moment l.kind l.target (operation p)) (opens l.past (prefix l.i l.past)) ≡ None
+invariant-loop-i l =
+    find (λ p. is_joinable l.past l.moment l.kind l.target (operation p)) (opens l.past (prefix l.i l.past)) ≡ None

@@ -16,7 +16,9 @@ returns-in-Some c =
     let o = c.args.req in
     let e = c.entry.result.now in
     let here : waiting_here h o e.event ≡ Some c.in-Some.number = sym c.waiting_by.ensures ∙ c.in-Some.is in
-    sym (stops (waiting h o) (Some c.in-Some.number) (waiting-kept h o c.in-Some.number) h c.loop-i.i e (omega (arith, c.loop-i-test.true, c.len-i-end.ensures)) c.entry.ensures (waiting-first h o e (prefix c.loop-i.i h) (Some c.in-Some.number) c.loop-i.invariant here))
+    sym (stops (waiting h o) (Some c.in-Some.number) (waiting-kept h o c.in-Some.number) h c.loop-i.i e
+    (omega (arith, c.loop-i-test.true, c.len-i-end.ensures)) c.entry.ensures
+    (waiting-first h o e (prefix c.loop-i.i h) (Some c.in-Some.number) c.loop-i.invariant here))
 
 pub loop-i-preserved : goal.loop-i-preserved
 loop-i-preserved c =
@@ -24,7 +26,10 @@ loop-i-preserved c =
     let o = c.args.req in
     let e = c.entry.result.now in
     let here : waiting_here h o e.event ≡ None = sym c.waiting_by.ensures ∙ c.in_default.is in
-    goes-on (waiting h o) None h c.loop-i.i e (omega (arith, c.loop-i-test.true, c.len-i-end.ensures)) c.entry.ensures (waiting-first h o e (prefix c.loop-i.i h) None c.loop-i.invariant here)
+    goes-on (waiting h o) None h c.loop-i.i e (omega (arith, c.loop-i-test.true, c.len-i-end.ensures)) c.entry.ensures
+    (waiting-first h o e (prefix c.loop-i.i h) None c.loop-i.invariant here)
 
 pub returns : goal.returns
-returns c = sym c.loop-i.invariant ∙ ap (waiting c.args.past.now c.args.req) (prefix-all c.args.past.now c.loop-i.i (omega (arith, c.loop-i-test.false, c.len-i-end.ensures)))
+returns c =
+    sym c.loop-i.invariant ∙ ap (waiting c.args.past.now c.args.req)
+    (prefix-all c.args.past.now c.loop-i.i (omega (arith, c.loop-i-test.false, c.len-i-end.ensures)))

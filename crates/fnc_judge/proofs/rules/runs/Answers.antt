@@ -22,8 +22,12 @@ pub loop-i-preserved : goal.loop-i-preserved
 loop-i-preserved c =
     let h : History = c.args.past.now in
     let e = c.entry.result.now in
-    c.runs_after-count.ensures ∙ ap (λ a. cond (runs_here c.args.req c.args.slot e.event) (a + 1) a) c.loop-i.invariant ∙ runs-more c.args.req c.args.slot e.moment e.event (prefix c.loop-i.i h)
-    ∙ ap (λ (k : History). runs c.args.slot (acts c.args.req k)) (sym (prefix-more h c.loop-i.i e (omega (arith, c.loop-i-test.true, c.len-i-end.ensures)) c.entry.ensures))
+    c.runs_after-count.ensures ∙ ap (λ a. cond (runs_here c.args.req c.args.slot e.event) (a + 1) a) c.loop-i.invariant
+    ∙ runs-more c.args.req c.args.slot e.moment e.event (prefix c.loop-i.i h)
+    ∙ ap (λ (k : History). runs c.args.slot (acts c.args.req k))
+    (sym (prefix-more h c.loop-i.i e (omega (arith, c.loop-i-test.true, c.len-i-end.ensures)) c.entry.ensures))
 
 pub returns : goal.returns
-returns c = c.loop-i.invariant ∙ ap (λ (k : History). runs c.args.slot (acts c.args.req k)) (prefix-all c.args.past.now c.loop-i.i (omega (arith, c.loop-i-test.false, c.len-i-end.ensures)))
+returns c =
+    c.loop-i.invariant ∙ ap (λ (k : History). runs c.args.slot (acts c.args.req k))
+    (prefix-all c.args.past.now c.loop-i.i (omega (arith, c.loop-i-test.false, c.len-i-end.ensures)))

@@ -9,7 +9,8 @@ use Rattle.fnc_judge.proofs.Opening.{alive-more, alive-most}
 use Rattle.fnc_judge.proofs.startable.alive.Goals as goal
 
 pub loop-i-init : goal.loop-i-init
-loop-i-init c = ap (λ (k : History). alive_in c.args.past.now c.args.number (begun_runs k)) (sym (prefix-none c.args.past.now))
+loop-i-init c =
+    ap (λ (k : History). alive_in c.args.past.now c.args.number (begun_runs k)) (sym (prefix-none c.args.past.now))
 
 pub alive_after-count-requires : goal.alive_after-count-requires
 alive_after-count-requires c =
@@ -22,8 +23,12 @@ pub loop-i-preserved : goal.loop-i-preserved
 loop-i-preserved c =
     let h : History = c.args.past.now in
     let e = c.entry.result.now in
-    c.alive_after-count.ensures ∙ ap (λ a. cond (counts_here h c.args.number e.event) (a + 1) a) c.loop-i.invariant ∙ alive-more h c.args.number e.moment e.event (prefix c.loop-i.i h)
-    ∙ ap (λ (k : History). alive_in c.args.past.now c.args.number (begun_runs k)) (sym (prefix-more h c.loop-i.i e (omega (arith, c.loop-i-test.true, c.len-i-end.ensures)) c.entry.ensures))
+    c.alive_after-count.ensures ∙ ap (λ a. cond (counts_here h c.args.number e.event) (a + 1) a) c.loop-i.invariant
+    ∙ alive-more h c.args.number e.moment e.event (prefix c.loop-i.i h)
+    ∙ ap (λ (k : History). alive_in c.args.past.now c.args.number (begun_runs k))
+    (sym (prefix-more h c.loop-i.i e (omega (arith, c.loop-i-test.true, c.len-i-end.ensures)) c.entry.ensures))
 
 pub returns : goal.returns
-returns c = c.loop-i.invariant ∙ ap (λ (k : History). alive_in c.args.past.now c.args.number (begun_runs k)) (prefix-all c.args.past.now c.loop-i.i (omega (arith, c.loop-i-test.false, c.len-i-end.ensures)))
+returns c =
+    c.loop-i.invariant ∙ ap (λ (k : History). alive_in c.args.past.now c.args.number (begun_runs k))
+    (prefix-all c.args.past.now c.loop-i.i (omega (arith, c.loop-i-test.false, c.len-i-end.ensures)))

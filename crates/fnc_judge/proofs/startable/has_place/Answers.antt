@@ -8,4 +8,6 @@ returns c =
     let h = c.args.past.now in
     c.has_room.ensures
     ∙ ap (has_room c.alive.result) c.cap.ensures
-    ∙ ap (λ (n : ℕ). has_room n c.args.task.now.definition.cap) (c.alive.ensures ∙ ap (λ (l : ℕ). alive l h) (c.lane_of-number.ensures ∙ ap (λ (r : ℕ). lane r h) c.reg.ensures))
+    ∙ ap (λ (n : ℕ). has_room n c.args.task.now.definition.cap)
+    (c.alive.ensures ∙ ap (λ (l : ℕ). alive l h)
+    (c.lane_of-number.ensures ∙ ap (λ (r : ℕ). lane r h) c.reg.ensures))

@@ -9,6 +9,8 @@ use Rattle.fnc_judge.proofs.survey.firsts.Given as goal
 abbrev pub invariant-loop-place : goal.invariant-loop-place
 invariant-loop-place l = record {
   before : l.before ≡ l.operation.asked.before;
-  all : gathered_all (operation l.operation) l.moment (acts l.operation.req l.past) nothing (firsts_over l.split l.operation.asked.kind l.operation.asked.before l.level 0 l.names)
-      ≡ gathered_all (operation l.operation) l.moment (acts l.operation.req l.past) l.found (firsts_over l.split l.operation.asked.kind l.operation.asked.before l.level l.place (drop l.place l.names));
+  all : gathered_all (operation l.operation) l.moment (acts l.operation.req l.past) nothing
+      (firsts_over l.split l.operation.asked.kind l.operation.asked.before l.level 0 l.names)
+      ≡ gathered_all (operation l.operation) l.moment (acts l.operation.req l.past) l.found
+      (firsts_over l.split l.operation.asked.kind l.operation.asked.before l.level l.place (drop l.place l.names));
 }

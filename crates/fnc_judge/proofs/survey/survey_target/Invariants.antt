@@ -10,6 +10,9 @@ use Rattle.fnc_judge.proofs.survey.survey_target.Given as goal
 abbrev pub invariant-loop-index : goal.invariant-loop-index
 invariant-loop-index l = record {
   before : l.before ≡ l.operation.asked.before;
-  all : surveyed_all (operation l.operation) l.moment (acts l.operation.req l.past) none (ranks_for l.operation.asked.kind l.operation.asked.before (levels l.target l.operation.asked.before))
-      ≡ surveyed_all (operation l.operation) l.moment (acts l.operation.req l.past) l.survey (ranks_for l.operation.asked.kind l.operation.asked.before (from l.index (levels l.target l.operation.asked.before)));
+  all : surveyed_all (operation l.operation) l.moment (acts l.operation.req l.past) none
+      (ranks_for l.operation.asked.kind l.operation.asked.before (levels l.target l.operation.asked.before))
+      ≡ surveyed_all (operation l.operation) l.moment (acts l.operation.req l.past) l.survey
+      (ranks_for l.operation.asked.kind l.operation.asked.before
+      (from l.index (levels l.target l.operation.asked.before)));
 }

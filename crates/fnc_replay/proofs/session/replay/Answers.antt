@@ -21,7 +21,7 @@ loop-made-init g c =
       limit = c.in-Ok-Ok.ensures.limit;
       text = (
         subst (λ (h : History). Gains (g.K.Sink.held c.args.sink) (g.K.Sink.held c.args.sink) (answers_text h))
-        (sym none) (gains-none (g.K.Sink.held c.args.sink)),
+            (sym none) (gains-none (g.K.Sink.held c.args.sink)),
         omega arith,
       );
       heard = heard-none _ _ none c.in-Ok-Ok.ensures.last;
@@ -104,7 +104,7 @@ returns-clause-heard g c =
     let of_sink = sink_told g.K.Sink.held g.K.Sink.unsent g.K.Sink.faults in
     let all : c.loop-made.made ≡ c.args.polls = omega (arith, c.loop-made.auto.made-end, c.loop-made-test.false) in
     heard-closed Outcome.Budget c.close-2.result
-        (change (of_sink c.loop-made.sink) (of_sink c.close-2.new.sink)) _ _ _ _
+    (change (of_sink c.loop-made.sink) (of_sink c.close-2.new.sink)) _ _ _ _
     c.close-2.ensures.closes
     (heard-cored Outcome.Budget _ _ _ _ c.into_journal-2.result
     c.into_journal-2.ensures.history c.into_journal-2.ensures.limit

@@ -59,7 +59,7 @@ pub returns-in-Nothing-clause-heard : goal.returns-in-Nothing-clause-heard
 returns-in-Nothing-clause-heard g c = λ start made heard.
     let of_sink = sink_told g.K.Sink.held g.K.Sink.unsent g.K.Sink.faults in
     heard-again c.send_on.result start _ _ made
-        (change (of_sink c.args.sink.now) (of_sink c.send_on.new.sink)) _ _ heard
+    (change (of_sink c.args.sink.now) (of_sink c.send_on.new.sink)) _ _ heard
     c.in-Nothing.ensures.takes.0 c.in-Nothing.ensures.takes.1 c.send_on.ensures.cause
 
 pub returns-in-Served-clause-heard : goal.returns-in-Served-clause-heard

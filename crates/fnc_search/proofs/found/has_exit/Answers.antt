@@ -17,7 +17,7 @@ returns-then-is_exit_of c =
     let here : is_exit_of r e.event ≡ true = sym c.is_exit_of.ensures ∙ c.if-is_exit_of.true in
     let found : has_exit r (e ∷ prefix c.loop-i.i h) ≡ true = rw here refl in
     sym (stops (has_exit r) true (λ d k p. any-kept (is_exit_of r d.event) (has_exit r k) p) h c.loop-i.i e
-        (omega (arith, c.loop-i-test.true, c.len-i-end.ensures)) c.entry.ensures found)
+    (omega (arith, c.loop-i-test.true, c.len-i-end.ensures)) c.entry.ensures found)
 
 pub loop-i-preserved : goal.loop-i-preserved
 loop-i-preserved c =
@@ -26,7 +26,7 @@ loop-i-preserved c =
     let e = c.entry.result.now in
     let here : is_exit_of r e.event ≡ false = sym c.is_exit_of.ensures ∙ c.if-is_exit_of.false in
     goes-on (has_exit r) false h c.loop-i.i e (omega (arith, c.loop-i-test.true, c.len-i-end.ensures)) c.entry.ensures
-        (any-none (is_exit_of r e.event) (has_exit r (prefix c.loop-i.i h)) here c.loop-i.invariant)
+    (any-none (is_exit_of r e.event) (has_exit r (prefix c.loop-i.i h)) here c.loop-i.invariant)
 
 pub returns : goal.returns
 returns c =

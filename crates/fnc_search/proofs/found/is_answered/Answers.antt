@@ -17,7 +17,7 @@ returns-then-is_reply_to c =
     let here : is_reply_to r e.event ≡ true = sym c.is_reply_to.ensures ∙ c.if-is_reply_to.true in
     let found : is_answered r (e ∷ prefix c.loop-i.i h) ≡ true = rw here refl in
     sym (stops (is_answered r) true (λ d k p. any-kept (is_reply_to r d.event) (is_answered r k) p) h c.loop-i.i e
-        (omega (arith, c.loop-i-test.true, c.len-i-end.ensures)) c.entry.ensures found)
+    (omega (arith, c.loop-i-test.true, c.len-i-end.ensures)) c.entry.ensures found)
 
 pub loop-i-preserved : goal.loop-i-preserved
 loop-i-preserved c =
@@ -26,8 +26,8 @@ loop-i-preserved c =
     let e = c.entry.result.now in
     let here : is_reply_to r e.event ≡ false = sym c.is_reply_to.ensures ∙ c.if-is_reply_to.false in
     goes-on (is_answered r) false h c.loop-i.i e
-        (omega (arith, c.loop-i-test.true, c.len-i-end.ensures)) c.entry.ensures
-        (any-none (is_reply_to r e.event) (is_answered r (prefix c.loop-i.i h)) here c.loop-i.invariant)
+    (omega (arith, c.loop-i-test.true, c.len-i-end.ensures)) c.entry.ensures
+    (any-none (is_reply_to r e.event) (is_answered r (prefix c.loop-i.i h)) here c.loop-i.invariant)
 
 pub returns : goal.returns
 returns c =

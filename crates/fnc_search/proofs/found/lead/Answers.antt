@@ -19,10 +19,10 @@ returns-in-Some c =
     let x = c.in-Some.lead in
     let here : lead_here n e.event ≡ Some x = sym c.lead_in.ensures ∙ c.in-Some.is in
     let found : lead_of n (e ∷ prefix c.loop-i.i h) ≡ Some x = sym (lead-more n e.moment e.event (prefix c.loop-i.i h))
-        ∙ or-first (lead_of n (prefix c.loop-i.i h)) (lead_here n e.event) (Some x) c.loop-i.invariant here in
+    ∙ or-first (lead_of n (prefix c.loop-i.i h)) (lead_here n e.event) (Some x) c.loop-i.invariant here in
     sym (stops (lead_of n) (Some x)
-        (λ d k p. sym (lead-more n d.moment d.event k) ∙ or-kept x (lead_of n k) (lead_here n d.event) p) h c.loop-i.i e
-        (omega (arith, c.loop-i-test.true, c.len-i-end.ensures)) c.entry.ensures found)
+    (λ d k p. sym (lead-more n d.moment d.event k) ∙ or-kept x (lead_of n k) (lead_here n d.event) p) h c.loop-i.i e
+    (omega (arith, c.loop-i-test.true, c.len-i-end.ensures)) c.entry.ensures found)
 
 pub loop-i-preserved : goal.loop-i-preserved
 loop-i-preserved c =
@@ -31,8 +31,8 @@ loop-i-preserved c =
     let e = c.entry.result.now in
     let here : lead_here n e.event ≡ None = sym c.lead_in.ensures ∙ c.in_default.is in
     goes-on (lead_of n) None h c.loop-i.i e (omega (arith, c.loop-i-test.true, c.len-i-end.ensures)) c.entry.ensures
-        (sym (lead-more n e.moment e.event (prefix c.loop-i.i h))
-        ∙ or-first (lead_of n (prefix c.loop-i.i h)) (lead_here n e.event) None c.loop-i.invariant here)
+    (sym (lead-more n e.moment e.event (prefix c.loop-i.i h))
+    ∙ or-first (lead_of n (prefix c.loop-i.i h)) (lead_here n e.event) None c.loop-i.invariant here)
 
 pub returns : goal.returns
 returns c =

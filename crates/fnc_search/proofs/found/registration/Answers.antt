@@ -18,11 +18,11 @@ returns-in-Some c =
     let x = c.in-Some.registration.now in
     let here : registration_here n e.event ≡ Some x = sym c.registration_here.ensures ∙ ap option_copied c.in-Some.is in
     let found : registration n (e ∷ prefix c.loop-i.i h) ≡ Some x =
-        or-first (registration n (prefix c.loop-i.i h)) (registration_here n e.event)
-        (Some x) c.loop-i.invariant here in
+    or-first (registration n (prefix c.loop-i.i h)) (registration_here n e.event)
+    (Some x) c.loop-i.invariant here in
     sym (stops (registration n) (Some x)
-        (λ d k p. or-kept x (registration n k) (registration_here n d.event) p) h c.loop-i.i e
-        (omega (arith, c.loop-i-test.true, c.len-i-end.ensures)) c.entry.ensures found)
+    (λ d k p. or-kept x (registration n k) (registration_here n d.event) p) h c.loop-i.i e
+    (omega (arith, c.loop-i-test.true, c.len-i-end.ensures)) c.entry.ensures found)
 
 pub loop-i-preserved : goal.loop-i-preserved
 loop-i-preserved c =
@@ -30,10 +30,10 @@ loop-i-preserved c =
     let n = c.args.reg in
     let e = c.entry.result.now in
     let here : registration_here n e.event ≡ None = sym c.registration_here.ensures
-        ∙ ap option_copied c.in_default.is in
+    ∙ ap option_copied c.in_default.is in
     goes-on (registration n) None h c.loop-i.i e
-        (omega (arith, c.loop-i-test.true, c.len-i-end.ensures)) c.entry.ensures
-        (or-first (registration n (prefix c.loop-i.i h)) (registration_here n e.event) None c.loop-i.invariant here)
+    (omega (arith, c.loop-i-test.true, c.len-i-end.ensures)) c.entry.ensures
+    (or-first (registration n (prefix c.loop-i.i h)) (registration_here n e.event) None c.loop-i.invariant here)
 
 pub returns : goal.returns
 returns c =

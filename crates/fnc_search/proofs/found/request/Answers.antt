@@ -17,13 +17,13 @@ returns-in-Some c =
     let before : History = prefix c.loop-i.i h in
     let here : asked_here r e.moment before e.event ≡ Some c.in-Some.asked =
     ap (λ (b : History). asked_here r e.moment b e.event) (sym c.before-in-loop-i.ensures) ∙ sym c.asked_here.ensures
-        ∙ c.in-Some.is in
+    ∙ c.in-Some.is in
     let found : asked r (e ∷ before) ≡ Some c.in-Some.asked =
-        or-first (asked r before) (asked_here r e.moment before e.event)
-        (Some c.in-Some.asked) c.loop-i.invariant here in
+    or-first (asked r before) (asked_here r e.moment before e.event)
+    (Some c.in-Some.asked) c.loop-i.invariant here in
     sym (stops (asked r) (Some c.in-Some.asked)
-        (λ d k p. or-kept c.in-Some.asked (asked r k) (asked_here r d.moment k d.event) p) h c.loop-i.i e
-        (omega (arith, c.loop-i-test.true, c.len-i-end.ensures)) c.entry.ensures found)
+    (λ d k p. or-kept c.in-Some.asked (asked r k) (asked_here r d.moment k d.event) p) h c.loop-i.i e
+    (omega (arith, c.loop-i-test.true, c.len-i-end.ensures)) c.entry.ensures found)
 
 pub loop-i-preserved : goal.loop-i-preserved
 loop-i-preserved c =
@@ -33,9 +33,9 @@ loop-i-preserved c =
     let before : History = prefix c.loop-i.i h in
     let here : asked_here r e.moment before e.event ≡ None =
     ap (λ (b : History). asked_here r e.moment b e.event) (sym c.before-in-loop-i.ensures) ∙ sym c.asked_here.ensures
-        ∙ c.in_default.is in
+    ∙ c.in_default.is in
     goes-on (asked r) None h c.loop-i.i e (omega (arith, c.loop-i-test.true, c.len-i-end.ensures)) c.entry.ensures
-        (or-first (asked r before) (asked_here r e.moment before e.event) None c.loop-i.invariant here)
+    (or-first (asked r before) (asked_here r e.moment before e.event) None c.loop-i.invariant here)
 
 pub returns : goal.returns
 returns c =

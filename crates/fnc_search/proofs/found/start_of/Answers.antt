@@ -17,9 +17,9 @@ returns-in-Some c =
     let x = c.in-Some.start in
     let here : started_here n e.event ≡ Some x = sym c.started_here.ensures ∙ c.in-Some.is in
     let found : started n (e ∷ prefix c.loop-i.i h) ≡ Some x =
-        or-first (started n (prefix c.loop-i.i h)) (started_here n e.event) (Some x) c.loop-i.invariant here in
+    or-first (started n (prefix c.loop-i.i h)) (started_here n e.event) (Some x) c.loop-i.invariant here in
     sym (stops (started n) (Some x) (λ d k p. or-kept x (started n k) (started_here n d.event) p) h c.loop-i.i e
-        (omega (arith, c.loop-i-test.true, c.len-i-end.ensures)) c.entry.ensures found)
+    (omega (arith, c.loop-i-test.true, c.len-i-end.ensures)) c.entry.ensures found)
 
 pub loop-i-preserved : goal.loop-i-preserved
 loop-i-preserved c =
@@ -28,7 +28,7 @@ loop-i-preserved c =
     let e = c.entry.result.now in
     let here : started_here n e.event ≡ None = sym c.started_here.ensures ∙ c.in_default.is in
     goes-on (started n) None h c.loop-i.i e (omega (arith, c.loop-i-test.true, c.len-i-end.ensures)) c.entry.ensures
-        (or-first (started n (prefix c.loop-i.i h)) (started_here n e.event) None c.loop-i.invariant here)
+    (or-first (started n (prefix c.loop-i.i h)) (started_here n e.event) None c.loop-i.invariant here)
 
 pub returns : goal.returns
 returns c =

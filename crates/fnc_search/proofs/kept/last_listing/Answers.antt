@@ -15,12 +15,12 @@ loop-i-preserved c =
     let h : History = c.args.past.now in
     let e = c.entry.result.now in
     c.listing_after-found.ensures
-        ∙ ap (λ (b : History). option_or
-        (listing_here c.args.reg c.args.target.now e.moment b e.event) c.loop-i.found) c.before-in-loop-i.ensures
-        ∙ ap (λ (a : Option Listing). option_or
-        (listing_here c.args.reg c.args.target.now e.moment (prefix c.loop-i.i h) e.event) a) c.loop-i.invariant
+    ∙ ap (λ (b : History). option_or
+    (listing_here c.args.reg c.args.target.now e.moment b e.event) c.loop-i.found) c.before-in-loop-i.ensures
+    ∙ ap (λ (a : Option Listing). option_or
+    (listing_here c.args.reg c.args.target.now e.moment (prefix c.loop-i.i h) e.event) a) c.loop-i.invariant
     ∙ ap (λ (k : History). last_listing c.args.reg c.args.target.now k)
-        (sym (prefix-more h c.loop-i.i e (omega (arith, c.loop-i-test.true, c.len-i-end.ensures)) c.entry.ensures))
+    (sym (prefix-more h c.loop-i.i e (omega (arith, c.loop-i-test.true, c.len-i-end.ensures)) c.entry.ensures))
 
 pub returns : goal.returns
 returns c =

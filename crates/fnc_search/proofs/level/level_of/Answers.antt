@@ -17,13 +17,13 @@ loop-i-preserved c =
     let h : History = c.args.past.now in
     let e = c.entry.result.now in
     c.level_after-found.ensures
-        ∙ ap (λ a. level_step c.args.target.now c.args.index c.loop-i.i e.event a) c.loop-i.invariant
-        ∙ ap (λ n. level_step c.args.target.now c.args.index n e.event
-        (of_index c.args.index (levels c.args.target.now (prefix c.loop-i.i h))))
-        (sym (prefix-length h c.loop-i.i (omega (arith, c.loop-i-test.true, c.len-i-end.ensures))))
-        ∙ level-more c.args.target.now c.args.index e.moment e.event (prefix c.loop-i.i h)
+    ∙ ap (λ a. level_step c.args.target.now c.args.index c.loop-i.i e.event a) c.loop-i.invariant
+    ∙ ap (λ n. level_step c.args.target.now c.args.index n e.event
+    (of_index c.args.index (levels c.args.target.now (prefix c.loop-i.i h))))
+    (sym (prefix-length h c.loop-i.i (omega (arith, c.loop-i-test.true, c.len-i-end.ensures))))
+    ∙ level-more c.args.target.now c.args.index e.moment e.event (prefix c.loop-i.i h)
     ∙ ap (λ (k : History). of_index c.args.index (levels c.args.target.now k))
-        (sym (prefix-more h c.loop-i.i e (omega (arith, c.loop-i-test.true, c.len-i-end.ensures)) c.entry.ensures))
+    (sym (prefix-more h c.loop-i.i e (omega (arith, c.loop-i-test.true, c.len-i-end.ensures)) c.entry.ensures))
 
 pub returns : goal.returns
 returns c =

@@ -16,7 +16,7 @@ loop-index-preserved c =
     let rest = from (c.loop-index.index + 1) ls in
     c.loop-index.invariant
     ∙ ap (λ xs. least_of c.loop-index.least (oldest xs))
-        (from-more c.loop-index.index ls (levels-rising c.args.target.now c.args.past.now))
+    (from-more c.loop-index.index ls (levels-rising c.args.target.now c.args.past.now))
     ∙ sym (oldest-more c.loop-index.least _ rest)
     ∙ ap (λ (x : Option Level). least_of (oldest_with c.loop-index.least x) (oldest rest)) (sym c.level_of.ensures)
     ∙ ap (λ (x : Option ℕ). least_of x (oldest rest)) (sym c.with_oldest-least.ensures)
@@ -25,7 +25,7 @@ pub returns : goal.returns
 returns c =
     let ls = levels c.args.target.now c.args.past.now in
     let end : from c.loop-index.index ls ≡ [] =
-        from-past c.loop-index.index c.args.target.now c.args.past.now
-        (omega (arith, c.loop-index-test.false, c.top_of-index-end.ensures)) in
+    from-past c.loop-index.index c.args.target.now c.args.past.now
+    (omega (arith, c.loop-index-test.false, c.top_of-index-end.ensures)) in
     sym (c.loop-index.invariant ∙ ap (λ xs. least_of c.loop-index.least (oldest xs)) end
-        ∙ oldest-last c.loop-index.least)
+    ∙ oldest-last c.loop-index.least)

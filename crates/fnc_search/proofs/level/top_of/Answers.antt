@@ -12,9 +12,9 @@ loop-i-preserved c =
     let h : History = c.args.past.now in
     let e = c.entry.result.now in
     c.max-most.ensures ∙ ap (λ (n : ℕ). max n c.loop-i.most) c.top_here_of.ensures
-        ∙ ap (λ a. max (top_here c.args.target.now e.event) a) c.loop-i.invariant
+    ∙ ap (λ a. max (top_here c.args.target.now e.event) a) c.loop-i.invariant
     ∙ ap (λ (k : History). top c.args.target.now k)
-        (sym (prefix-more h c.loop-i.i e (omega (arith, c.loop-i-test.true, c.len-i-end.ensures)) c.entry.ensures))
+    (sym (prefix-more h c.loop-i.i e (omega (arith, c.loop-i-test.true, c.len-i-end.ensures)) c.entry.ensures))
 
 pub returns : goal.returns
 returns c =

@@ -9,6 +9,6 @@ use Rattle.fnc_search.proofs.planned.are_all_candidates.Given as goal
 abbrev pub invariant-loop : goal.invariant-loop
 invariant-loop l =
     l.rest ≡ map (candidate (wanted l.operation) l.operation.asked.before)
-        (map (λ (c : Keyed). c.device) (later l.after (keyed_of l.operation))) →
+    (map (λ (c : Keyed). c.device) (later l.after (keyed_of l.operation))) →
     l.written ≡ map (candidate (wanted l.operation) l.operation.asked.before)
-        (candidates_among (wanted l.operation) l.operation.asked.before l.operation.asked.before)
+    (candidates_among (wanted l.operation) l.operation.asked.before l.operation.asked.before)

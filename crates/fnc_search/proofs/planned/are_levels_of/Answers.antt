@@ -28,7 +28,7 @@ pub returns : goal.returns
 returns c =
     let h = c.args.before.now in
     levels-over h c.loop-index.rest.now
-        (from c.loop-index.index (levels c.args.target.now h)) c.is_empty.result c.is_empty.ensures
+    (from c.loop-index.index (levels c.args.target.now h)) c.is_empty.result c.is_empty.ensures
     (from-past c.loop-index.index c.args.target.now h
-        (omega (arith, c.top_of-index-end.ensures, c.loop-index-test.false)))
+    (omega (arith, c.top_of-index-end.ensures, c.loop-index-test.false)))
     c.loop-index.invariant

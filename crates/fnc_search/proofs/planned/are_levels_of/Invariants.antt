@@ -8,4 +8,4 @@ use Rattle.fnc_search.proofs.planned.are_levels_of.Given as goal
 abbrev pub invariant-loop-index : goal.invariant-loop-index
 invariant-loop-index l =
     l.rest ≡ map (plan_level l.before) (from l.index (levels l.target l.before)) →
-        l.written ≡ map (plan_level l.before) (levels l.target l.before)
+    l.written ≡ map (plan_level l.before) (levels l.target l.before)

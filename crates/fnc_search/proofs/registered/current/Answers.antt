@@ -13,7 +13,7 @@ loop-i-preserved c =
     let e = c.entry.result.now in
     c.current_after-found.ensures ∙ ap (λ a. current_after c.args.name.now e.event a) c.loop-i.invariant
     ∙ ap (λ (k : History). current c.args.name.now k)
-        (sym (prefix-more h c.loop-i.i e (omega (arith, c.loop-i-test.true, c.len-i-end.ensures)) c.entry.ensures))
+    (sym (prefix-more h c.loop-i.i e (omega (arith, c.loop-i-test.true, c.len-i-end.ensures)) c.entry.ensures))
 
 pub returns : goal.returns
 returns c =

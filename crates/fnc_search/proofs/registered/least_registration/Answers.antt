@@ -13,9 +13,9 @@ loop-i-preserved c =
     let h : History = c.args.past.now in
     let e = c.entry.result.now in
     c.least_of-least.ensures ∙ ap (λ x. least_of x c.loop-i.least) c.named_here.ensures
-        ∙ ap (λ a. least_of (named_here c.args.name.now e.event) a) c.loop-i.invariant
+    ∙ ap (λ a. least_of (named_here c.args.name.now e.event) a) c.loop-i.invariant
     ∙ ap (λ (k : History). least_registration c.args.name.now k)
-        (sym (prefix-more h c.loop-i.i e (omega (arith, c.loop-i-test.true, c.len-i-end.ensures)) c.entry.ensures))
+    (sym (prefix-more h c.loop-i.i e (omega (arith, c.loop-i-test.true, c.len-i-end.ensures)) c.entry.ensures))
 
 pub returns : goal.returns
 returns c =

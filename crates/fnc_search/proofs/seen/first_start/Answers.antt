@@ -19,13 +19,13 @@ returns-then-is_start_for c =
     let starts : starts_for o e.event ≡ true = sym c.is_start_for.ensures ∙ c.if-is_start_for.true in
     let here : cond (starts_for o e.event) (Some (length (prefix i h))) None ≡ Some i =
     ap (λ (b : Bool). cond b (Some (length (prefix i h))) None) starts
-        ∙ ap Some (prefix-length h i (omega (arith, c.loop-i-test.true, c.len-i-end.ensures))) in
+    ∙ ap Some (prefix-length h i (omega (arith, c.loop-i-test.true, c.len-i-end.ensures))) in
     let found : first_start_of o (e ∷ prefix i h) ≡ Some i =
-        or-first (first_start_of o (prefix i h)) (cond (starts_for o e.event) (Some (length (prefix i h))) None)
-        (Some i) c.loop-i.invariant here in
+    or-first (first_start_of o (prefix i h)) (cond (starts_for o e.event) (Some (length (prefix i h))) None)
+    (Some i) c.loop-i.invariant here in
     sym (stops (first_start_of o) (Some i)
-        (λ d k p. or-kept i (first_start_of o k) (cond (starts_for o d.event) (Some (length k)) None) p) h i e
-        (omega (arith, c.loop-i-test.true, c.len-i-end.ensures)) c.entry.ensures found)
+    (λ d k p. or-kept i (first_start_of o k) (cond (starts_for o d.event) (Some (length k)) None) p) h i e
+    (omega (arith, c.loop-i-test.true, c.len-i-end.ensures)) c.entry.ensures found)
 
 pub loop-i-preserved : goal.loop-i-preserved
 loop-i-preserved c =
@@ -35,10 +35,10 @@ loop-i-preserved c =
     let e = c.entry.result.now in
     let starts : starts_for o e.event ≡ false = sym c.is_start_for.ensures ∙ c.if-is_start_for.false in
     let here : cond (starts_for o e.event) (Some (length (prefix i h))) None ≡ None =
-        ap (λ (b : Bool). cond b (Some (length (prefix i h))) None) starts in
+    ap (λ (b : Bool). cond b (Some (length (prefix i h))) None) starts in
     goes-on (first_start_of o) None h i e (omega (arith, c.loop-i-test.true, c.len-i-end.ensures)) c.entry.ensures
-        (or-first (first_start_of o (prefix i h))
-        (cond (starts_for o e.event) (Some (length (prefix i h))) None) None c.loop-i.invariant here)
+    (or-first (first_start_of o (prefix i h))
+    (cond (starts_for o e.event) (Some (length (prefix i h))) None) None c.loop-i.invariant here)
 
 pub returns : goal.returns
 returns c =

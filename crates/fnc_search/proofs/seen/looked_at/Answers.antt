@@ -10,5 +10,5 @@ looked_from-requires c =
 pub returns-in-None : goal.returns-in-None
 returns-in-None c =
     c.nothing.ensures c.args.task.now c.args.over
-        ∙ ap (seen_of c.args.task.now c.args.over)
-        (sym (acts-none c.args.req c.args.past.now (sym c.first_start.ensures ∙ c.in-None.is)))
+    ∙ ap (seen_of c.args.task.now c.args.over)
+    (sym (acts-none c.args.req c.args.past.now (sym c.first_start.ensures ∙ c.in-None.is)))

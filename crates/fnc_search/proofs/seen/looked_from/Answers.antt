@@ -26,13 +26,13 @@ loop-i-preserved c =
     let h : History = c.args.past.now in
     let e = c.entry.result.now in
     c.after-found.ensures ∙ ap
-        (λ (b : History). seen_with c.args.task.now c.args.over c.loop-i.found
-        (act_here c.args.req e.moment (acts c.args.req b) e.event)) c.before-in-loop-i.ensures
-        ∙ ap (λ (a : Seen). seen_with c.args.task.now c.args.over a
-        (act_here c.args.req e.moment (acts c.args.req (prefix c.loop-i.i h)) e.event)) c.loop-i.invariant
-        ∙ seen-more c.args.task.now c.args.over c.args.req e.moment e.event (prefix c.loop-i.i h)
+    (λ (b : History). seen_with c.args.task.now c.args.over c.loop-i.found
+    (act_here c.args.req e.moment (acts c.args.req b) e.event)) c.before-in-loop-i.ensures
+    ∙ ap (λ (a : Seen). seen_with c.args.task.now c.args.over a
+    (act_here c.args.req e.moment (acts c.args.req (prefix c.loop-i.i h)) e.event)) c.loop-i.invariant
+    ∙ seen-more c.args.task.now c.args.over c.args.req e.moment e.event (prefix c.loop-i.i h)
     ∙ ap (λ (k : History). seen_of c.args.task.now c.args.over (acts c.args.req k))
-        (sym (prefix-more h c.loop-i.i e (omega (arith, c.loop-i-test.true, c.len-i-end.ensures)) c.entry.ensures))
+    (sym (prefix-more h c.loop-i.i e (omega (arith, c.loop-i-test.true, c.len-i-end.ensures)) c.entry.ensures))
 
 pub returns : goal.returns
 returns c =

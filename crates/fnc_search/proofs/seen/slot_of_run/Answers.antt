@@ -16,9 +16,9 @@ loop-i-preserved c =
     let h : History = c.args.past.now in
     let e = c.entry.result.now in
     c.slot_after-found.ensures ∙ ap (λ a. or_here a (begun_slot c.args.req c.args.run e.event)) c.loop-i.invariant
-        ∙ slot-more c.args.req c.args.run e.moment e.event (prefix c.loop-i.i h)
+    ∙ slot-more c.args.req c.args.run e.moment e.event (prefix c.loop-i.i h)
     ∙ ap (λ (k : History). slot_of_run c.args.run (acts c.args.req k))
-        (sym (prefix-more h c.loop-i.i e (omega (arith, c.loop-i-test.true, c.len-i-end.ensures)) c.entry.ensures))
+    (sym (prefix-more h c.loop-i.i e (omega (arith, c.loop-i-test.true, c.len-i-end.ensures)) c.entry.ensures))
 
 pub returns : goal.returns
 returns c =

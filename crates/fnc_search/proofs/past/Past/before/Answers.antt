@@ -17,5 +17,5 @@ returns c =
     let long = prefix-length c.self.inside.journal.now.history c.self.inside.len c.self.invariant in
     let view = ap length c.self.view_is in
     sym (prefix-prefix c.self.inside.journal.now.history c.self.inside.len c.args.index
-        (omega (arith, long, view, c.requires)))
+    (omega (arith, long, view, c.requires)))
     ∙ ap (λ (k : History). prefix c.args.index k) c.self.view_is

@@ -15,7 +15,7 @@ entry-requires c =
 pub returns : goal.returns
 returns c =
     let within : c.args.index < length (prefix c.self.inside.len c.self.inside.journal.now.history) =
-        subst (λ (k : History). c.args.index < length k) (sym c.self.view_is) c.requires in
+    subst (λ (k : History). c.args.index < length k) (sym c.self.view_is) c.requires in
     ap (λ (k : History). entry_at c.args.index k) (sym c.self.view_is)
     ∙ entry_at-prefix c.self.inside.journal.now.history c.self.inside.len c.args.index within
     ∙ c.entry.ensures
