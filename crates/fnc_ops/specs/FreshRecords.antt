@@ -118,16 +118,16 @@ abbrev pub tries_after : ℕ → List SlotRecord → ℕ
 tries_after n [] = n
 tries_after n (r ∷ rs) = tries_after (capped 32 (n + r.tries)) rs
 
--- those of a query that may not be there
+-- a number with the allowed tries of a query that may not be there
 abbrev pub query_tries_after : ℕ → Option SlotRecord → ℕ
 query_tries_after n None = n
 query_tries_after n (Some q) = capped 32 (n + q.tries)
 
--- those of all slots of a level
+-- a number with the allowed tries of all slots of a level
 abbrev pub level_tries_after : ℕ → KeptLevel → ℕ
 level_tries_after n l = tries_after (tries_after (query_tries_after n l.query) l.firsts) l.ons
 
--- and of these levels
+-- a number with the allowed tries of all slots of these levels
 abbrev pub all_tries_after : ℕ → List KeptLevel → ℕ
 all_tries_after n [] = n
 all_tries_after n (l ∷ ls) = all_tries_after (level_tries_after n l) ls

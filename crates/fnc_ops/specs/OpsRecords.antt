@@ -59,7 +59,7 @@ pub record DueTo : Type 0 where
   pub req : ℕ
   pub answer : Answer
 
--- with an answer that may be missing
+-- the number of an operation with an answer that may be missing
 abbrev pub due_to : ℕ → Option Answer → Option DueTo
 due_to req None = None
 due_to req (Some answer) = Some (record { req = req; answer = answer })
@@ -109,12 +109,12 @@ sooner None b = b
 sooner (Some a) None = Some a
 sooner (Some a) (Some b) = Some (if nat_lt b.end a.end then b else a)
 
--- the first of all
+-- the first expiry of all operations
 abbrev pub first_expiry : ℕ → List KeptOperation → Option Expiry
 first_expiry m [] = None
 first_expiry m (o ∷ os) = sooner (expiry_of m o) (first_expiry m os)
 
--- its operation
+-- the operation of the first expiry
 abbrev pub first_expired : ℕ → List KeptOperation → Option Req
 first_expired m os = option_map (λ (e : Expiry). e.req) (first_expiry m os)
 
@@ -139,7 +139,7 @@ abbrev pub owed_with : ℕ → List KeptOperation → ℕ
 owed_with n [] = n
 owed_with n (o ∷ os) = owed_with (capped 64 (n + capped 64 (OperationRecords.owed_by o))) os
 
--- with an exit for each run that is alive
+-- what all operations owe, with an exit for each run that is alive
 abbrev pub owed : Kept → ℕ
 owed v = v.alive + owed_by_all v.operations
 

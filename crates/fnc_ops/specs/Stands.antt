@@ -145,12 +145,12 @@ pub record Ending : Type 0 where
   pub req : ℕ
   pub at : ℕ
 
--- with an end that may be missing
+-- an operation with an end that may be missing
 abbrev pub ending : Operation → Option ℕ → Option Ending
 ending o None = None
 ending o (Some at) = Some (record { req = o.req; at = at })
 
--- of an operation that stood there at a moment, at a later one
+-- an operation whose standing slot at a moment has come to its action's end by a later one
 abbrev pub ending_of : History → ℕ → ℕ → Operation → Option Ending
 ending_of h m later o = ending o (option_and_then (λ t. come_by later (end t (acts o.req h))) (stands_at h m o))
 
@@ -160,13 +160,13 @@ sooner_ending None b = b
 sooner_ending (Some a) None = Some a
 sooner_ending (Some a) (Some b) = Some (if nat_lt b.at a.at then b else a)
 
--- the first of all, each operation standing where it does at the moment at which its record speaks
+-- the first of all operations, each standing where it does at the moment at which its record speaks
 abbrev pub first_ending : History → ℕ → List KeptOperation → List Operation → Option Ending
 first_ending h later [] os = None
 first_ending h later (r ∷ rs) [] = None
 first_ending h later (r ∷ rs) (o ∷ os) = sooner_ending (ending_of h r.moment later o) (first_ending h later rs os)
 
--- its number
+-- the number of the first of all operations whose standing slot has come to its action's end
 abbrev pub first_ended : History → ℕ → List KeptOperation → Option ℕ
 first_ended h later rs = option_map (λ (e : Ending). e.req) (first_ending h later rs (open_operations h))
 
@@ -185,12 +185,12 @@ pub record Try : Type 0 where
 abbrev pub of_try : Try → Start → Start
 of_try y start = record start { slot = y.task.slot }
 
--- of a slot, where its next try is ready from some moment on
+-- the try of a slot, where that is ready from some moment on
 abbrev pub try_ready : Task → Option ℕ → Option Try
 try_ready t None = None
 try_ready t (Some at) = Some (record { task = t; ready = at })
 
--- of the slot at which an operation stands
+-- the try of the slot at which an operation stands
 abbrev pub try_at : History → ℕ → Operation → Option Task → Option Try
 try_at h m o None = None
 try_at h m o (Some t) = try_ready t (ready o m (acts o.req h) t)

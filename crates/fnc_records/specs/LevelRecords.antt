@@ -59,11 +59,11 @@ is_capable l = capable_query l.query
 abbrev pub is_lost_by : ℕ → SlotRecord → Bool
 is_lost_by m s = is_spent m s && not s.succeeded
 
--- whether it is lost
+-- whether a level is lost
 abbrev pub is_lost : ℕ → KeptLevel → Bool
 is_lost m l = l.unfit || list_any (is_lost_by m) l.firsts
 
--- whether it is done
+-- whether a level is done
 abbrev pub is_done : ℕ → ℕ → KeptLevel → Bool
 is_done over m l = list_all (λ s. s.succeeded) l.firsts && (list_all (is_concluded m) l.ons || nat_le over m)
 
@@ -76,20 +76,20 @@ abbrev pub latest : ℕ → ℕ → ℕ → List SlotRecord → ℕ
 latest begin m at [] = at
 latest begin m at (r ∷ rs) = latest begin m (later begin m at r) rs
 
--- with the level's slots
+-- the greatest of a moment and those at which a level's concluded slots were concluded
 abbrev pub latest_in : ℕ → ℕ → ℕ → KeptLevel → ℕ
 latest_in begin m at l = latest begin m (latest begin m at l.firsts) l.ons
 
--- with the level's slots, where it is tried
+-- the greatest of a moment and, of a level that is tried, those at which its concluded slots were concluded
 abbrev pub latest_tried : ℕ → ℕ → ℕ → KeptLevel → ℕ
 latest_tried begin m at l = if l.tried then latest_in begin m at l else at
 
--- with a query that may not be there
+-- the greatest of a moment and that at which a query that may not be there was concluded
 abbrev pub later_query : ℕ → ℕ → ℕ → Option SlotRecord → ℕ
 later_query begin m at None = at
 later_query begin m at (Some q) = later begin m at q
 
--- with the level's query
+-- the greatest of a moment and that at which a level's query was concluded
 abbrev pub latest_query : ℕ → ℕ → ℕ → KeptLevel → ℕ
 latest_query begin m at l = later_query begin m at l.query
 
@@ -97,7 +97,7 @@ latest_query begin m at l = later_query begin m at l.query
 abbrev pub ranked : ℕ → KeptLevel → KeptLevel
 ranked index l = record l { tried = true; index = index; firsts = map (at_level index) l.firsts }
 
--- so where its device is capable
+-- as the level of this number, where its device is capable
 abbrev pub ranked_if_capable : ℕ → KeptLevel → KeptLevel
 ranked_if_capable index l = if is_capable l then ranked index l else l
 
@@ -105,7 +105,7 @@ ranked_if_capable index l = if is_capable l then ranked index l else l
 abbrev pub next_rank : ℕ → KeptLevel → ℕ
 next_rank index l = if is_capable l then capped 8 (index + 1) else index
 
--- after a start of one of the operation's runs
+-- a level after a start of one of the operation's runs
 abbrev pub level_started : Slot → ℕ → KeptLevel → KeptLevel
 level_started s m l = record l {
   query = option_map (started s m) l.query;
@@ -113,7 +113,7 @@ level_started s m l = record l {
   ons = map (started s m) l.ons;
 }
 
--- after an exit of one
+-- a level after an exit of one of the operation's runs
 abbrev pub level_ended : Slot → Exit → Bool → ℕ → ℕ → KeptLevel → KeptLevel
 level_ended s exit listed over m l = record l {
   query = option_map (ended s exit listed over m) l.query;

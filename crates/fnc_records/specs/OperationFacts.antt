@@ -105,21 +105,21 @@ pub record IsOperation (m : ℕ) (xs : List Act) (r : KeptOperation) (o : Operat
 abbrev pub left_of : SlotRecord → ℕ
 left_of r = capped 32 r.tries - r.runs
 
--- of some slots
+-- those of some slots
 abbrev pub left_in : List SlotRecord → ℕ
 left_in [] = 0
 left_in (r ∷ rs) = left_of r + left_in rs
 
--- of a query that may not be there
+-- those of a query that may not be there
 abbrev pub left_query : Option SlotRecord → ℕ
 left_query None = 0
 left_query (Some q) = left_of q
 
--- of a level's slots
+-- those of a level's slots
 abbrev pub left_level : KeptLevel → ℕ
 left_level l = left_query l.query + left_in l.firsts + left_in l.ons
 
--- of all levels
+-- those of all levels
 abbrev pub left_levels : List KeptLevel → ℕ
 left_levels [] = 0
 left_levels (l ∷ ls) = left_level l + left_levels ls

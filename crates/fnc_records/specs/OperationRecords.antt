@@ -78,7 +78,7 @@ abbrev pub latest_queries : ℕ → ℕ → ℕ → List KeptLevel → ℕ
 latest_queries begin m at [] = at
 latest_queries begin m at (l ∷ ls) = latest_queries begin m (latest_query begin m at l) ls
 
--- the same with the slots of the levels that are tried
+-- the greatest of a moment and those at which the concluded slots of the levels that are tried were concluded
 abbrev pub latest_levels : ℕ → ℕ → ℕ → List KeptLevel → ℕ
 latest_levels begin m at [] = at
 latest_levels begin m at (l ∷ ls) = latest_levels begin m (latest_tried begin m at l) ls
@@ -169,7 +169,7 @@ at_moment m o = ranked_if_queried m (record o { moment = m })
 abbrev pub at_moment_unless_ending : ℕ → ℕ → KeptOperation → KeptOperation
 at_moment_unless_ending req m o = if (o.req == req) || is_none (expired_at m o) then at_moment m o else o
 
--- after a start of one of the operation's runs
+-- the record after a start of one of the operation's runs
 abbrev pub operation_started : Slot → ℕ → KeptOperation → KeptOperation
 operation_started s m o = record o { levels = map (level_started s m) o.levels; untried = o.untried - 1 }
 
@@ -185,16 +185,16 @@ start_standing m o = started_at m (standing_slot m o) o
 abbrev pub only : ℕ → (KeptOperation → KeptOperation) → KeptOperation → KeptOperation
 only req f o = if o.req == req then f o else o
 
--- after an exit of one
+-- the record after an exit of one of the operation's runs
 abbrev pub operation_ended : Slot → Exit → Bool → ℕ → KeptOperation → KeptOperation
 operation_ended s exit listed m o =
     ranked_if_queried m (record o { levels = map (level_ended s exit listed o.over m) o.levels })
 
--- after an operator's word that a target is down
+-- the record after an operator's word that a target is down
 abbrev pub operation_confirmed : List ℕ → KeptOperation → KeptOperation
 operation_confirmed target o = if bytes_eq target o.target then record o { confirmed = true } else o
 
--- with one more request that waits
+-- the record with one more request that waits
 abbrev pub with_member : Req → KeptOperation → KeptOperation
 with_member req o = record o { members = o.members ++ req ∷ [] }
 

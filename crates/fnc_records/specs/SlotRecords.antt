@@ -61,7 +61,7 @@ concluded_at begin r = unwrap_or (least_of r.succeeded_at (least_of r.failed_at 
 abbrev pub later : ℕ → ℕ → ℕ → SlotRecord → ℕ
 later begin m at r = if is_concluded m r then max at (concluded_at begin r) else at
 
--- the same slot of the level of this number
+-- the record of a slot that is now of the level of this number
 abbrev pub at_level : ℕ → SlotRecord → SlotRecord
 at_level index r = record r { slot = record { phase = r.slot.phase; level = index; place = r.slot.place } }
 
@@ -82,7 +82,7 @@ ready_by since delay (LastRun.EndedAt at) = at
 abbrev pub ready : ℕ → SlotRecord → ℕ
 ready since r = ready_by since r.delay r.last
 
--- after a start of one of its own runs
+-- the record after a start of one of its own runs
 abbrev pub started_same : ℕ → SlotRecord → SlotRecord
 started_same m r = record r {
   runs = capped 32 (r.runs + 1);
@@ -90,7 +90,7 @@ started_same m r = record r {
   end = earlier_or r.end (capped 64 (m + r.time));
 }
 
--- after a start of one of the operation's runs
+-- the record after a start of one of the operation's runs
 abbrev pub started : Slot → ℕ → SlotRecord → SlotRecord
 started s m r = if same_slot r.slot s then started_same m r else r
 
@@ -99,7 +99,7 @@ abbrev pub is_in_time : ℕ → ℕ → Option ℕ → Bool
 is_in_time over m None = false
 is_in_time over m (Some end) = nat_lt m over && nat_lt m end
 
--- after a success in time
+-- the record after a success in time
 abbrev pub succeeded_now : Bool → ℕ → SlotRecord → SlotRecord
 succeeded_now listed m r = record r {
   succeeded = true;
@@ -108,7 +108,7 @@ succeeded_now listed m r = record r {
   succeeded_at = earlier_or r.succeeded_at m;
 }
 
--- after a failure in time
+-- the record after a failure in time
 abbrev pub failed_now : ℕ → SlotRecord → SlotRecord
 failed_now m r = record r {
   failed = capped 32 (r.failed + 1);
@@ -116,13 +116,13 @@ failed_now m r = record r {
   failed_at = if capped 32 (r.failed + 1) == r.tries then earlier_or r.failed_at m else r.failed_at;
 }
 
--- after an exit of one of its own runs
+-- the record after an exit of one of its own runs
 abbrev pub ended_same : Exit → Bool → ℕ → ℕ → SlotRecord → SlotRecord
 ended_same exit listed over m r =
     if not (is_in_time over m r.end) then record r { last = LastRun.EndedAt m }
     else if is_success r.kind exit then succeeded_now listed m r
     else failed_now m r
 
--- after an exit of one of the operation's runs
+-- the record after an exit of one of the operation's runs
 abbrev pub ended : Slot → Exit → Bool → ℕ → ℕ → SlotRecord → SlotRecord
 ended s exit listed over m r = if same_slot r.slot s then ended_same exit listed over m r else r

@@ -179,7 +179,8 @@ impl LevelRecord {
         )
     }
 
-    /// The same, where it is tried.
+    /// The greatest of a moment and those at which its concluded slots were concluded, where it is tried; else the
+    /// moment.
     pub fn latest_tried(&self, begin: u64, moment: u64, at: u64) -> u64
         ensures { result ≡ LevelRecords.latest_tried begin moment at self.now }
     {

@@ -366,7 +366,8 @@ impl OperationRecord {
         }
     }
 
-    /// The same, where this is the operation.
+    /// A run of the operation of this number was started, of the slot at which that stands. A record of another
+    /// operation stays as it was.
     pub fn start_of(&mut self, operation: Req, moment: u64)
         ensures { self.new ≡ OperationRecords.only operation.0 (OperationRecords.start_standing moment) self.old }
     {
@@ -384,7 +385,7 @@ impl OperationRecord {
         self.rank_if_queried(moment);
     }
 
-    /// The same, where this is the operation.
+    /// A run of the operation of this number has ended. A record of another operation stays as it was.
     pub fn see_exit_of(&mut self, operation: Req, slot: Slot, exit: Exit, listed: bool, moment: u64)
         ensures { self.new ≡ OperationRecords.only operation.0
             (OperationRecords.operation_ended slot exit listed moment) self.old }
@@ -412,7 +413,8 @@ impl OperationRecord {
         }
     }
 
-    /// The same, where this is the operation.
+    /// The least request that waits for the operation of this number was answered. A record of another operation
+    /// stays as it was.
     pub fn see_reply_of(&mut self, operation: Req)
         ensures { self.new ≡ OperationRecords.only operation.0 OperationRecords.replied self.old }
     {
