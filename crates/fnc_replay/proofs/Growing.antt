@@ -4,6 +4,7 @@ use Rattle.fnc_journal.specs.declared.entry.Entry.{Entry}
 use Rattle.fnc_journal.specs.History.{History}
 use Rattle.fnc_journal.specs.Prefix.{prefix}
 use Rattle.fnc_journal.proofs.Prefixes.{prefix-all}
+use Rattle.fnc_core.proofs.Following.{entered-history, entered-limit}
 use Rattle.fnc_core.specs.Cored.{Cored}
 use Rattle.fnc_outside.specs.Events.{Happening}
 use Rattle.fnc_journal.specs.declared.outcome.Full.{Full}
@@ -21,12 +22,11 @@ grows-served line old new s =
     let e = s.takes.enters in
     let input : Entry = record { moment = s.takes.entry.moment; event = s.takes.entry.event } in
     record {
-      more = s.starts.some.starts ++ (e.replies ++ (input ∷ e.advance));
+      more = s.starts.some.starts ++ (e.follows.replies ++ (input ∷ e.advances.advance));
       history =
-          s.starts.some.history ∙ ap (λ (h : History). s.starts.some.starts ++ h)
-          (e.history ∙ sym (append_assoc e.replies (input ∷ e.advance) old.history))
-          ∙ sym (append_assoc s.starts.some.starts (e.replies ++ (input ∷ e.advance)) old.history);
-      limit = s.starts.some.limit ∙ e.limit;
+          s.starts.some.history ∙ ap (λ (h : History). s.starts.some.starts ++ h) (entered-history e ∙ sym (append_assoc e.follows.replies (input ∷ e.advances.advance) old.history))
+          ∙ sym (append_assoc s.starts.some.starts (e.follows.replies ++ (input ∷ e.advances.advance)) old.history);
+      limit = s.starts.some.limit ∙ entered-limit e;
     }
 
 pub grows-passed : (line : Happening) (full : Full) (old new : Cored) → LacksRoom line old new full → Grows old new

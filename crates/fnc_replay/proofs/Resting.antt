@@ -45,6 +45,7 @@ use Rattle.fnc_journal.specs.Driven.{Driven, DrivenInputs, last_input, is_at_onc
 use Rattle.fnc_journal.specs.Served.{AtRest, AreReplies}
 use Rattle.fnc_journal.proofs.Lawfulness.{in_order-of}
 use Rattle.fnc_journal.proofs.DrivenSteps.{reply-no_input, rests-next, rests-same, rests-end, rests_before-output}
+use Rattle.fnc_core.proofs.Following.{entered-answered, entered-history, entered-last}
 use Rattle.fnc_core.specs.Cored.{Cored, IsFull, Sound, Starts}
 use Rattle.fnc_core.specs.declared.change.Started.{Started}
 use Rattle.fnc_desk.specs.Entered.{TakesLine, LacksRoom}
@@ -166,46 +167,39 @@ rests-served line old mid new r t s k = record {
 }
   where
     is-line : is_input t.entry.event ≡ true
-    is-line = given-is_input line (t.enters.advance ++ old.history) old.last _ t.entry t.is
+    is-line = given-is_input line (t.enters.advances.advance ++ old.history) old.last _ t.entry t.is
 
     lead : History
-    lead = t.enters.advance ++ old.history
+    lead = t.enters.advances.advance ++ old.history
 
     input : Entry
     input = record { moment = t.entry.moment; event = t.entry.event }
 
-    outputs : AreOutputs t.entry.moment t.enters.replies
-    outputs = outputs-replies t.entry.moment t.enters.replies t.enters.answered
+    outputs : AreOutputs t.entry.moment t.enters.follows.replies
+    outputs = outputs-replies t.entry.moment t.enters.follows.replies (entered-answered t.enters)
 
     starts : AreOutputs t.entry.moment s.some.starts
-    starts =
-        outputs-starts t.entry.moment s.some.starts
-        (subst (λ n. AreStarts n s.some.starts) t.enters.last s.some.started)
+    starts = outputs-starts t.entry.moment s.some.starts (subst (λ n. AreStarts n s.some.starts) (entered-last t.enters) s.some.started)
 
-    whole : new.history ≡ s.some.starts ++ (t.enters.replies ++ input ∷ lead)
-    whole = s.some.history ∙ ap (λ (h : History). s.some.starts ++ h) t.enters.history
+    whole : new.history ≡ s.some.starts ++ (t.enters.follows.replies ++ input ∷ lead)
+    whole = s.some.history ∙ ap (λ (h : History). s.some.starts ++ h) (entered-history t.enters)
 
     now : new.last ≡ t.entry.moment
-    now = s.some.last ∙ t.enters.last
+    now = s.some.last ∙ entered-last t.enters
 
     lawful : Lawful lead
-    lawful =
-        (Lawful-drop t.enters.replies (input ∷ lead)
-        (Lawful-drop s.some.starts (t.enters.replies ++ input ∷ lead) (subst Lawful whole k.lawful))).1
+    lawful = (Lawful-drop t.enters.follows.replies (input ∷ lead) (Lawful-drop s.some.starts (t.enters.follows.replies ++ input ∷ lead) (subst Lawful whole k.lawful))).1
 
     served : IsTrue (rests_before input lead)
     served =
         let is : is_input input.event ≡ true = is-line in
-        rw is (served-before old t.entry.moment t.enters.advance r t.later t.enters.still t.enters.at_once lawful)
+        rw is (served-before old t.entry.moment t.enters.advances.advance r t.later t.enters.advances.still t.enters.advances.at_once lawful)
 
-    driven : DrivenInputs (s.some.starts ++ (t.enters.replies ++ input ∷ lead))
+    driven : DrivenInputs (s.some.starts ++ (t.enters.follows.replies ++ input ∷ lead))
     driven =
-        inputs-outputs t.entry.moment s.some.starts (t.enters.replies ++ input ∷ lead) starts
-        (inputs-outputs t.entry.moment t.enters.replies (input ∷ lead) outputs (
-          served,
-          inputs-outputs t.entry.moment t.enters.advance old.history
-              (outputs-replies t.entry.moment t.enters.advance t.enters.at_once) r.inputs,
-        ))
+        inputs-outputs t.entry.moment s.some.starts (t.enters.follows.replies ++ input ∷ lead) starts
+        (inputs-outputs t.entry.moment t.enters.follows.replies (input ∷ lead) outputs
+        (served, inputs-outputs t.entry.moment t.enters.advances.advance old.history (outputs-replies t.entry.moment t.enters.advances.advance t.enters.advances.at_once) r.inputs))
 
     last_here : last_input (input ∷ lead) ≡ Some t.entry.moment
     last_here = let is : is_input input.event ≡ true = is-line in rw is refl
@@ -213,8 +207,8 @@ rests-served line old mid new r t s k = record {
     last_is : last_input new.history ≡ Some new.last
     last_is =
         ap last_input whole
-        ∙ last_input-outputs t.entry.moment s.some.starts (t.enters.replies ++ input ∷ lead) starts
-        ∙ last_input-outputs t.entry.moment t.enters.replies (input ∷ lead) outputs
+        ∙ last_input-outputs t.entry.moment s.some.starts (t.enters.follows.replies ++ input ∷ lead) starts
+        ∙ last_input-outputs t.entry.moment t.enters.follows.replies (input ∷ lead) outputs
         ∙ last_here
         ∙ ap Some (sym now)
 
@@ -225,8 +219,8 @@ rests-served line old mid new r t s k = record {
     once =
         ap (λ n. is_at_once n new.history) now
         ∙ ap (is_at_once t.entry.moment) whole
-        ∙ at_once-outputs t.entry.moment s.some.starts (t.enters.replies ++ input ∷ lead) starts
-        (at_once-outputs t.entry.moment t.enters.replies (input ∷ lead) outputs once_here)
+        ∙ at_once-outputs t.entry.moment s.some.starts (t.enters.follows.replies ++ input ∷ lead) starts
+        (at_once-outputs t.entry.moment t.enters.follows.replies (input ∷ lead) outputs once_here)
 
 -- at rest the journal is Driven
 pub driven-rests : (v : Cored) → Rests v → Driven v.history
