@@ -50,7 +50,10 @@ called-is_input (Said.Ask m client target) h last n =
     go false = refl
 called-is_input (Said.Exit m run code) h last n = go (nat_le last m) (is_alive run h)
   where
-    go : (b c : Bool) → is_input (cond b (cond c (record { moment = m; event = Event.Exit (record { run = record { 0 = run }; exit = Exit.Code code; listed = false }) }) (refused m n Cause.UnknownRun)) (refused last n Cause.UnknownVerb)).event ≡ true
+    go : (b c : Bool) → is_input
+        (cond b (cond c (record { moment = m;
+        event = Event.Exit (record { run = record { 0 = run }; exit = Exit.Code code; listed = false }) })
+        (refused m n Cause.UnknownRun)) (refused last n Cause.UnknownVerb)).event ≡ true
     go true true = refl
     go true false = refl
     go false c = refl
@@ -76,7 +79,11 @@ entered-counted old new e need is n =
     ∙ rw is (ap (λ k. k + 1) (inputs-replied e.moment n.advances.advance old.history n.advances.at_once))
 
 pub line-counted : (x : Happening) (old new : Cored) → TakesLine x old new → inputs new.history ≡ inputs old.history + 1
-line-counted x old new t = entered-counted old new t.entry _ (given-is_input x (t.enters.advances.advance ++ old.history) old.last _ t.entry t.is) t.enters
+line-counted x old new t =
+    entered-counted old new t.entry _
+    (given-is_input x (t.enters.advances.advance ++ old.history) old.last _ t.entry t.is) t.enters
 
-pub refused-counted : (old new : Cored) (m n : ℕ) (cause : Cause) → TakesInput (refused m n cause) old new → inputs new.history ≡ inputs old.history + 1
-refused-counted old new m n cause t = entered-counted old new t.entry _ (or-no-memory (refused m n cause) t.entry _ refl t.is) t.enters
+pub refused-counted : (old new : Cored) (m n : ℕ) (cause : Cause) → TakesInput (refused m n cause) old new →
+    inputs new.history ≡ inputs old.history + 1
+refused-counted old new m n cause t =
+    entered-counted old new t.entry _ (or-no-memory (refused m n cause) t.entry _ refl t.is) t.enters

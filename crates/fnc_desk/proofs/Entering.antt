@@ -97,7 +97,9 @@ takes-after input old mid new (Ok u) later a t =
     record {
       entry = t.entry;
       later = omega (arith, later, same);
-      enters = enters-after old mid new t.entry.moment t.entry.event (need_of t.entry.event) (subst (Advances old mid) (sym same) a) t.enters;
+      enters =
+          enters-after old mid new t.entry.moment t.entry.event (need_of t.entry.event)
+          (subst (Advances old mid) (sym same) a) t.enters;
       is = subst (λ n. IsInput input n t.entry) (next-after old mid input.moment a) t.is;
     }
 
@@ -129,22 +131,40 @@ pub takes-refusal : (input : Entry) (old new : Cored) (line : ℕ) (r : Result (
     takes_memory input.event ≡ true → line ≡ next_line old →
     OnOk r (TakesInput (refused input.moment line Cause.NoMemory) old new) → OnOk r (TakesInput input old new)
 takes-refusal input old new line (Err full) m l t = tt
-takes-refusal input old new line (Ok u) m l t = record { entry = t.entry; later = t.later; enters = t.enters; is = in-place_of input t.entry line (next_line old) m l t.is }
+takes-refusal input old new line (Ok u) m l t = record {
+  entry = t.entry;
+  later = t.later;
+  enters = t.enters;
+  is = in-place_of input t.entry line (next_line old) m l t.is;
+}
 
 pub lacks-refusal : (input : Entry) (old new : Cored) (line : ℕ) (r : Result (Unit {0}) Full) →
     takes_memory input.event ≡ true → line ≡ next_line old →
     IfErr r (InputLacksRoom (refused input.moment line Cause.NoMemory) old new) → IfErr r (InputLacksRoom input old new)
 lacks-refusal input old new line (Ok u) m l t = tt
-lacks-refusal input old new line (Err full) m l t = record { entry = t.entry; later = t.later; advances = t.advances; is = in-place_of input t.entry line (next_line old) m l t.is; is_full = t.is_full }
+lacks-refusal input old new line (Err full) m l t = record {
+  entry = t.entry;
+  later = t.later;
+  advances = t.advances;
+  is = in-place_of input t.entry line (next_line old) m l t.is;
+  is_full = t.is_full;
+}
 
 -- the exit of a run that is alive, and of one that is not
-pub exit-alive : (m run code number : ℕ) (h : History) → is_alive run h ≡ true → record { moment = m; event = Event.Exit (record { run = record { 0 = run }; exit = Exit.Code code; listed = false }) } ≡ exit_input m run code h number
+pub exit-alive : (m run code number : ℕ) (h : History) → is_alive run h ≡ true → record {
+  moment = m;
+  event = Event.Exit (record { run = record { 0 = run }; exit = Exit.Code code; listed = false });
+} ≡ exit_input m run code h number
 exit-alive m run code number h e = rw e refl
 
 pub exit-unknown : (m run code number : ℕ) (h : History) → (is_alive run h ≡ true → false ≡ true) →
     refused m number Cause.UnknownRun ≡ exit_input m run code h number
 exit-unknown m run code number h k = go (is_alive run h) k
   where
-    go : (b : Bool) → (b ≡ true → false ≡ true) → refused m number Cause.UnknownRun ≡ cond b (record { moment = m; event = Event.Exit (record { run = record { 0 = run }; exit = Exit.Code code; listed = false }) }) (refused m number Cause.UnknownRun)
+    go : (b : Bool) → (b ≡ true → false ≡ true) →
+        refused m number Cause.UnknownRun
+        ≡ cond b (record { moment = m;
+        event = Event.Exit (record { run = record { 0 = run }; exit = Exit.Code code; listed = false }) })
+        (refused m number Cause.UnknownRun)
     go true k = let bad : false ≡ true = k refl in cc
     go false k = refl

@@ -57,14 +57,18 @@ untrue : (b : Bool) → not b ≡ true → b ≡ false
 untrue true e = cc
 untrue false e = refl
 
--- a line that is refused at the last moment finds no replies, and those that another finds do not change what it calls for
+-- a line that is refused at the last moment finds no replies, and those that another finds do not change what it calls
+-- for
 same-input : (s : Said) (h rs : History) (last n m : ℕ) → AreReplies m rs → (last ≡ m → rs ≡ []) →
     (input_of s h last n).moment ≡ m → input_of s (rs ++ h) last n ≡ input_of s h last n
 same-input (Said.Device at name) h rs last n m a still q =
     ap (λ k. cond (nat_le last at && (k == 0)) (device_input at name) (refused last n Cause.UnknownVerb))
     (devices-replied m rs h a)
 same-input (Said.Exit at run code) h rs last n m a still q =
-    ap (λ b. cond (nat_le last at) (cond b (record { moment = at; event = Event.Exit (record { run = record { 0 = run }; exit = Exit.Code code; listed = false }) }) (refused at n Cause.UnknownRun)) (refused last n Cause.UnknownVerb))
+    ap (λ b. cond (nat_le last at)
+        (cond b (record { moment = at;
+        event = Event.Exit (record { run = record { 0 = run }; exit = Exit.Code code; listed = false }) })
+        (refused at n Cause.UnknownRun)) (refused last n Cause.UnknownVerb))
     (is_alive-replied m rs h a run)
 same-input (Said.Ask at client target) h rs last n m a still q =
     go (nat_le last at && (devices h == 1) && not (has_operation target h)) refl q
@@ -93,7 +97,9 @@ takes-said s n bytes old new is number t = record {
   entry = t.entry;
   later = t.later;
   enters = t.enters;
-  is = given-after (said bytes) old.history t.enters.advances.advance old.last (next_line old) t.entry t.enters.advances.at_once t.enters.advances.still
+  is =
+      given-after (said bytes) old.history t.enters.advances.advance old.last
+      (next_line old) t.entry t.enters.advances.at_once t.enters.advances.still
       (subst (λ (x : Said). IsInput (input_of x old.history old.last (next_line old)) (next_line old) t.entry) is
       (subst (λ k. IsInput (input_of s old.history old.last k) (next_line old) t.entry) number t.is));
 }
@@ -143,7 +149,10 @@ plain-input (Said.Ask at client target) h last n =
     go false k = tt
 plain-input (Said.Exit at run code) h last n = go (nat_le last at) (is_alive run h)
   where
-    go : (b c : Bool) → IsPlainEntry (cond b (cond c (record { moment = at; event = Event.Exit (record { run = record { 0 = run }; exit = Exit.Code code; listed = false }) }) (refused at n Cause.UnknownRun)) (refused last n Cause.UnknownVerb)).event h
+    go : (b c : Bool) → IsPlainEntry
+        (cond b (cond c (record { moment = at;
+        event = Event.Exit (record { run = record { 0 = run }; exit = Exit.Code code; listed = false }) })
+        (refused at n Cause.UnknownRun)) (refused last n Cause.UnknownVerb)).event h
     go true true = tt
     go true false = tt
     go false c = tt
@@ -165,13 +174,17 @@ plain-entered old new e need f n k =
     (plain-replied e.moment n.follows.replies _ (entered-answered n)
     (k, plain-replied e.moment n.advances.advance old.history n.advances.at_once f))
 
-pub plain-taken : (x : Happening) (old new : Cored) → IsPlainJournal old.history → TakesLine x old new → IsPlainJournal new.history
-plain-taken x old new f t = plain-entered old new t.entry _ f t.enters (plain-given x _ old.last (next_line old) t.entry t.is)
+pub plain-taken : (x : Happening) (old new : Cored) → IsPlainJournal old.history → TakesLine x old new →
+    IsPlainJournal new.history
+plain-taken x old new f t =
+    plain-entered old new t.entry _ f t.enters (plain-given x _ old.last (next_line old) t.entry t.is)
 
-pub plain-refused : (old new : Cored) (m n : ℕ) (cause : Cause) → IsPlainJournal old.history → TakesInput (refused m n cause) old new → IsPlainJournal new.history
+pub plain-refused : (old new : Cored) (m n : ℕ) (cause : Cause) → IsPlainJournal old.history →
+    TakesInput (refused m n cause) old new → IsPlainJournal new.history
 plain-refused old new m n cause f t = plain-entered old new t.entry _ f t.enters (go t.is)
   where
-    go : IsInput (refused m n cause) (next_line old) t.entry → IsPlainEntry t.entry.event (t.enters.advances.advance ++ old.history)
+    go : IsInput (refused m n cause) (next_line old) t.entry →
+        IsPlainEntry t.entry.event (t.enters.advances.advance ++ old.history)
     go (inl k) = subst (λ (d : Entry). IsPlainEntry d.event (t.enters.advances.advance ++ old.history)) (sym k) tt
     go (inr k) = cc
 

@@ -113,8 +113,10 @@ lines-served : (line : Happening) (lines : List Happening) (old new : Cored) →
     last_come old.history ≡ old.last → ServesLine line old new → AreLines new.history (line ∷ lines)
 lines-served line lines old new a l s =
     subst (λ (h : History). AreLines h (line ∷ lines)) (sym whole)
-    (lines-outputs s.mid.last s.starts.some.starts _ (line ∷ lines) (outputs-starts s.mid.last s.starts.some.starts s.starts.some.started)
-    (lines-outputs s.takes.entry.moment s.takes.enters.follows.replies _ (line ∷ lines) (outputs-replies s.takes.entry.moment s.takes.enters.follows.replies (entered-answered s.takes.enters)) here))
+    (lines-outputs s.mid.last s.starts.some.starts _ (line ∷ lines)
+        (outputs-starts s.mid.last s.starts.some.starts s.starts.some.started)
+    (lines-outputs s.takes.entry.moment s.takes.enters.follows.replies _ (line ∷ lines)
+        (outputs-replies s.takes.entry.moment s.takes.enters.follows.replies (entered-answered s.takes.enters)) here))
   where
     met : History
     met = s.takes.enters.advances.advance ++ old.history
@@ -126,22 +128,28 @@ lines-served line lines old new a l s =
     here =
         let is : is_input s.takes.entry.event ≡ true = given-is_input line met old.last _ s.takes.entry s.takes.is in
         rw is (
-          gives-heard line lines old s.takes.entry s.takes.entry.moment s.takes.enters.advances.advance s.takes.enters.advances.at_once a l s.takes.is,
-          lines-outputs s.takes.entry.moment s.takes.enters.advances.advance old.history lines (outputs-replies s.takes.entry.moment s.takes.enters.advances.advance s.takes.enters.advances.at_once) a,
+          gives-heard line lines old s.takes.entry s.takes.entry.moment s.takes.enters.advances.advance
+              s.takes.enters.advances.at_once a l s.takes.is,
+          lines-outputs s.takes.entry.moment s.takes.enters.advances.advance old.history lines
+              (outputs-replies s.takes.entry.moment s.takes.enters.advances.advance s.takes.enters.advances.at_once) a,
         )
 
 -- and its moment is the last
 last-served : (line : Happening) (old new : Cored) → ServesLine line old new → last_come new.history ≡ new.last
-last-served line old new s = ap (λ (o : Option ℕ). unwrap_or o 0) found ∙ sym (s.starts.some.last ∙ entered-last s.takes.enters)
+last-served line old new s =
+    ap (λ (o : Option ℕ). unwrap_or o 0) found ∙ sym (s.starts.some.last ∙ entered-last s.takes.enters)
   where
     is : is_input s.takes.entry.event ≡ true
     is = given-is_input line (s.takes.enters.advances.advance ++ old.history) old.last _ s.takes.entry s.takes.is
 
     found : last_input new.history ≡ Some s.takes.entry.moment
     found =
-        ap last_input (s.starts.some.history ∙ ap (λ (h : History). s.starts.some.starts ++ h) (entered-history s.takes.enters))
-        ∙ last_input-outputs s.mid.last s.starts.some.starts _ (outputs-starts s.mid.last s.starts.some.starts s.starts.some.started)
-        ∙ last_input-outputs s.takes.entry.moment s.takes.enters.follows.replies _ (outputs-replies s.takes.entry.moment s.takes.enters.follows.replies (entered-answered s.takes.enters))
+        ap last_input (s.starts.some.history
+            ∙ ap (λ (h : History). s.starts.some.starts ++ h) (entered-history s.takes.enters))
+        ∙ last_input-outputs s.mid.last s.starts.some.starts _
+            (outputs-starts s.mid.last s.starts.some.starts s.starts.some.started)
+        ∙ last_input-outputs s.takes.entry.moment s.takes.enters.follows.replies _
+            (outputs-replies s.takes.entry.moment s.takes.enters.follows.replies (entered-answered s.takes.enters))
         ∙ rw is refl
 
 -- a line that finds no room

@@ -179,7 +179,9 @@ rests-served line old mid new r t s k = record {
     outputs = outputs-replies t.entry.moment t.enters.follows.replies (entered-answered t.enters)
 
     starts : AreOutputs t.entry.moment s.some.starts
-    starts = outputs-starts t.entry.moment s.some.starts (subst (λ n. AreStarts n s.some.starts) (entered-last t.enters) s.some.started)
+    starts =
+        outputs-starts t.entry.moment s.some.starts
+        (subst (λ n. AreStarts n s.some.starts) (entered-last t.enters) s.some.started)
 
     whole : new.history ≡ s.some.starts ++ (t.enters.follows.replies ++ input ∷ lead)
     whole = s.some.history ∙ ap (λ (h : History). s.some.starts ++ h) (entered-history t.enters)
@@ -188,18 +190,22 @@ rests-served line old mid new r t s k = record {
     now = s.some.last ∙ entered-last t.enters
 
     lawful : Lawful lead
-    lawful = (Lawful-drop t.enters.follows.replies (input ∷ lead) (Lawful-drop s.some.starts (t.enters.follows.replies ++ input ∷ lead) (subst Lawful whole k.lawful))).1
+    lawful =
+        (Lawful-drop t.enters.follows.replies (input ∷ lead)
+        (Lawful-drop s.some.starts (t.enters.follows.replies ++ input ∷ lead) (subst Lawful whole k.lawful))).1
 
     served : IsTrue (rests_before input lead)
     served =
         let is : is_input input.event ≡ true = is-line in
-        rw is (served-before old t.entry.moment t.enters.advances.advance r t.later t.enters.advances.still t.enters.advances.at_once lawful)
+        rw is (served-before old t.entry.moment t.enters.advances.advance r t.later t.enters.advances.still
+            t.enters.advances.at_once lawful)
 
     driven : DrivenInputs (s.some.starts ++ (t.enters.follows.replies ++ input ∷ lead))
     driven =
         inputs-outputs t.entry.moment s.some.starts (t.enters.follows.replies ++ input ∷ lead) starts
         (inputs-outputs t.entry.moment t.enters.follows.replies (input ∷ lead) outputs
-        (served, inputs-outputs t.entry.moment t.enters.advances.advance old.history (outputs-replies t.entry.moment t.enters.advances.advance t.enters.advances.at_once) r.inputs))
+        (served, inputs-outputs t.entry.moment t.enters.advances.advance old.history
+            (outputs-replies t.entry.moment t.enters.advances.advance t.enters.advances.at_once) r.inputs))
 
     last_here : last_input (input ∷ lead) ≡ Some t.entry.moment
     last_here = let is : is_input input.event ≡ true = is-line in rw is refl
