@@ -9,7 +9,12 @@ use Rattle.fnc_journal.specs.declared.event.Event.{Event}
 use Rattle.fnc_journal.specs.Bounds.{IsBounded, is_allowed, is_base, is_cap, is_carrier, is_host, is_host_pair, is_own_option, is_priority, is_time}
 use Rattle.fnc_journal_reader.specs.Within as Within
 use Rattle.fnc_journal.specs.declared.event.LevelSet.{LevelSet}
-use Rattle.fnc_journal.specs.declared.limits.TheConstants.{MOST_DEVICES_OF_LEVEL, MOST_LEVELS_OF_TARGET}
+use Rattle.fnc_journal.specs.declared.limits.TheConstants.{
+  MOST_DEVICES_OF_LEVEL,
+  MOST_HOSTS,
+  MOST_LEVELS_OF_TARGET,
+  MOST_OPTIONS,
+}
 use Rattle.fnc_core.specs.Between.{IsBoundedEvent}
 use Rattle.fnc_core.specs.Known.{IsSmallLevel}
 
@@ -19,11 +24,11 @@ bounded d b =
     let front = and_parts (Within.are_nodes d) (Within.are_limits d) parts.0 in
     let n5 = and_parts _ (is_carrier d.argument) front.0 in
     let n4 = and_parts _ (list_all is_host_pair d.map) n5.0 in
-    let n3 = and_parts _ (nat_le (length d.map) 256) n4.0 in
+    let n3 = and_parts _ (nat_le (length d.map) MOST_HOSTS) n4.0 in
     let n2 = and_parts _ (list_all is_host d.hosts) n3.0 in
-    let n1 = and_parts d.actions.off (nat_le (length d.hosts) 256) n2.0 in
+    let n1 = and_parts d.actions.off (nat_le (length d.hosts) MOST_HOSTS) n2.0 in
     let l6 = and_parts _ (list_all is_own_option d.own) front.1 in
-    let l5 = and_parts _ (nat_le (length d.own) 32) l6.0 in
+    let l5 = and_parts _ (nat_le (length d.own) MOST_OPTIONS) l6.0 in
     let l4 = and_parts _ (is_time d.keep) l5.0 in
     let l3 = and_parts _ (is_time d.max) l4.0 in
     let l2 = and_parts _ (is_base d.base) l3.0 in
