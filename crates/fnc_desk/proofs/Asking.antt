@@ -49,15 +49,17 @@ takes-request old new m req a p client target a-is p-is first device free later 
     alone : k.lead ≡ req
     alone =
         k.leads
-        ∙ ap (λ (h : History). record { 0 = unwrap_or
-            (option_map (λ (o : Operation). o.req) (joined h m a.kind a.target)) req.0 }) k.enters.advances.history
+        ∙ ap (λ (h : History). record {
+          0 = unwrap_or
+              (option_map (λ (o : Operation). o.req) (joined h m a.kind a.target)) req.0;
+        }) k.enters.advances.history
         ∙ ap (λ (x : Option Operation). record { 0 = unwrap_or (option_map (λ (o : Operation). o.req) x) req.0 }) none
       where
         none : joined met m a.kind a.target ≡ None
         none =
             ap (λ (b : Ask). joined met m b.kind b.target) a-is
             ∙ joined-none met (plain-replied m k.enters.advances.advance old.history k.enters.advances.at_once first) m
-                target
+            target
             (none-open m k.enters.advances.advance old.history k.enters.advances.at_once target free)
 
     event-is : ask_event req k.lead a p ≡ ask_of (record { 0 = asks old.history }) client target

@@ -51,8 +51,10 @@ called-is_input (Said.Ask m client target) h last n =
 called-is_input (Said.Exit m run code) h last n = go (nat_le last m) (is_alive run h)
   where
     go : (b c : Bool) → is_input
-        (cond b (cond c (record { moment = m;
-        event = Event.Exit (record { run = record { 0 = run }; exit = Exit.Code code; listed = false }) })
+        (cond b (cond c (record {
+          moment = m;
+          event = Event.Exit (record { run = record { 0 = run }; exit = Exit.Code code; listed = false });
+        })
         (refused m n Cause.UnknownRun)) (refused last n Cause.UnknownVerb)).event ≡ true
     go true true = refl
     go true false = refl

@@ -163,8 +163,10 @@ exit-unknown m run code number h k = go (is_alive run h) k
   where
     go : (b : Bool) → (b ≡ true → false ≡ true) →
         refused m number Cause.UnknownRun
-        ≡ cond b (record { moment = m;
-        event = Event.Exit (record { run = record { 0 = run }; exit = Exit.Code code; listed = false }) })
+        ≡ cond b (record {
+          moment = m;
+          event = Event.Exit (record { run = record { 0 = run }; exit = Exit.Code code; listed = false });
+        })
         (refused m number Cause.UnknownRun)
     go true k = let bad : false ≡ true = k refl in cc
     go false k = refl

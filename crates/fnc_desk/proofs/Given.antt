@@ -66,9 +66,11 @@ same-input (Said.Device at name) h rs last n m a still q =
     (devices-replied m rs h a)
 same-input (Said.Exit at run code) h rs last n m a still q =
     ap (λ b. cond (nat_le last at)
-        (cond b (record { moment = at;
-        event = Event.Exit (record { run = record { 0 = run }; exit = Exit.Code code; listed = false }) })
-        (refused at n Cause.UnknownRun)) (refused last n Cause.UnknownVerb))
+    (cond b (record {
+      moment = at;
+      event = Event.Exit (record { run = record { 0 = run }; exit = Exit.Code code; listed = false });
+    })
+    (refused at n Cause.UnknownRun)) (refused last n Cause.UnknownVerb))
     (is_alive-replied m rs h a run)
 same-input (Said.Ask at client target) h rs last n m a still q =
     go (nat_le last at && (devices h == 1) && not (has_operation target h)) refl q
@@ -150,8 +152,10 @@ plain-input (Said.Ask at client target) h last n =
 plain-input (Said.Exit at run code) h last n = go (nat_le last at) (is_alive run h)
   where
     go : (b c : Bool) → IsPlainEntry
-        (cond b (cond c (record { moment = at;
-        event = Event.Exit (record { run = record { 0 = run }; exit = Exit.Code code; listed = false }) })
+        (cond b (cond c (record {
+          moment = at;
+          event = Event.Exit (record { run = record { 0 = run }; exit = Exit.Code code; listed = false });
+        })
         (refused at n Cause.UnknownRun)) (refused last n Cause.UnknownVerb)).event h
     go true true = tt
     go true false = tt

@@ -41,8 +41,7 @@ fn change_of(core: &Core, event: Event) -> Option<Change>
     requires few { (moment : ℕ) → LeavesFewNames moment event core.now.history }
     ensures ordered { IfSome result (λ c. in_order (event_of core.now.history c) core.now.history ≡ true) }
     ensures bounded { IfSome result (λ c. IsBoundedEvent (event_of core.now.history c)) }
-    ensures few
-        { IfSome result (λ c. (moment : ℕ) → LeavesFewNames moment (event_of core.now.history c) core.now.history) }
+    ensures few { IfSome result (λ c. (moment : ℕ) → LeavesFewNames moment (event_of core.now.history c) core.now.history) }
 {
     match event {
         Event::Device(device) => Some(Change::Device(device.registration)),

@@ -25,7 +25,7 @@ grows-served line old new s =
       more = s.starts.some.starts ++ (e.follows.replies ++ (input ∷ e.advances.advance));
       history =
           s.starts.some.history ∙ ap (λ (h : History). s.starts.some.starts ++ h)
-              (entered-history e ∙ sym (append_assoc e.follows.replies (input ∷ e.advances.advance) old.history))
+          (entered-history e ∙ sym (append_assoc e.follows.replies (input ∷ e.advances.advance) old.history))
           ∙ sym (append_assoc s.starts.some.starts (e.follows.replies ++ (input ∷ e.advances.advance)) old.history);
       limit = s.starts.some.limit ∙ entered-limit e;
     }

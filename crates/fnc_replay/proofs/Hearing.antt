@@ -114,9 +114,9 @@ lines-served : (line : Happening) (lines : List Happening) (old new : Cored) →
 lines-served line lines old new a l s =
     subst (λ (h : History). AreLines h (line ∷ lines)) (sym whole)
     (lines-outputs s.mid.last s.starts.some.starts _ (line ∷ lines)
-        (outputs-starts s.mid.last s.starts.some.starts s.starts.some.started)
+    (outputs-starts s.mid.last s.starts.some.starts s.starts.some.started)
     (lines-outputs s.takes.entry.moment s.takes.enters.follows.replies _ (line ∷ lines)
-        (outputs-replies s.takes.entry.moment s.takes.enters.follows.replies (entered-answered s.takes.enters)) here))
+    (outputs-replies s.takes.entry.moment s.takes.enters.follows.replies (entered-answered s.takes.enters)) here))
   where
     met : History
     met = s.takes.enters.advances.advance ++ old.history
@@ -145,11 +145,11 @@ last-served line old new s =
     found : last_input new.history ≡ Some s.takes.entry.moment
     found =
         ap last_input (s.starts.some.history
-            ∙ ap (λ (h : History). s.starts.some.starts ++ h) (entered-history s.takes.enters))
+        ∙ ap (λ (h : History). s.starts.some.starts ++ h) (entered-history s.takes.enters))
         ∙ last_input-outputs s.mid.last s.starts.some.starts _
-            (outputs-starts s.mid.last s.starts.some.starts s.starts.some.started)
+        (outputs-starts s.mid.last s.starts.some.starts s.starts.some.started)
         ∙ last_input-outputs s.takes.entry.moment s.takes.enters.follows.replies _
-            (outputs-replies s.takes.entry.moment s.takes.enters.follows.replies (entered-answered s.takes.enters))
+        (outputs-replies s.takes.entry.moment s.takes.enters.follows.replies (entered-answered s.takes.enters))
         ∙ rw is refl
 
 -- a line that finds no room

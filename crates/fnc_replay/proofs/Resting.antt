@@ -198,14 +198,16 @@ rests-served line old mid new r t s k = record {
     served =
         let is : is_input input.event ≡ true = is-line in
         rw is (served-before old t.entry.moment t.enters.advances.advance r t.later t.enters.advances.still
-            t.enters.advances.at_once lawful)
+        t.enters.advances.at_once lawful)
 
     driven : DrivenInputs (s.some.starts ++ (t.enters.follows.replies ++ input ∷ lead))
     driven =
         inputs-outputs t.entry.moment s.some.starts (t.enters.follows.replies ++ input ∷ lead) starts
-        (inputs-outputs t.entry.moment t.enters.follows.replies (input ∷ lead) outputs
-        (served, inputs-outputs t.entry.moment t.enters.advances.advance old.history
-            (outputs-replies t.entry.moment t.enters.advances.advance t.enters.advances.at_once) r.inputs))
+        (inputs-outputs t.entry.moment t.enters.follows.replies (input ∷ lead) outputs (
+          served,
+          inputs-outputs t.entry.moment t.enters.advances.advance old.history
+              (outputs-replies t.entry.moment t.enters.advances.advance t.enters.advances.at_once) r.inputs,
+        ))
 
     last_here : last_input (input ∷ lead) ≡ Some t.entry.moment
     last_here = let is : is_input input.event ≡ true = is-line in rw is refl

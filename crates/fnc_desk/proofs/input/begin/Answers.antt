@@ -22,11 +22,11 @@ ask-requires-clause-in_place c =
 pub ask-requires-clause-planned : goal.ask-requires-clause-planned
 ask-requires-clause-planned c =
     subst (λ (a : Ask). IsPlanOf c.args.core.now.history c.args.moment a.kind a.target c.in-Ok-Ok-Ok.plan)
-        (sym c.off.ensures)
+    (sym c.off.ensures)
     (subst (λ (p : Plan). IsPlanOf c.args.core.now.history c.args.moment Kind.Off c.in-Ok-Ok-Ok.target p)
-        (sym c.in-Ok-Ok-Ok.ensures'')
+    (sym c.in-Ok-Ok-Ok.ensures'')
     (only-planned c.args.core.now.history c.args.moment c.in-Ok-Ok-Ok.target
-        (one-known c.args.core.now.history c.requires.session c.requires.device)))
+    (one-known c.args.core.now.history c.requires.session c.requires.device)))
 
 pub refuse-requires-in-Err-NoMemory-clause-number : goal.refuse-requires-in-Err-NoMemory-clause-number
 refuse-requires-in-Err-NoMemory-clause-number c =
@@ -35,9 +35,9 @@ refuse-requires-in-Err-NoMemory-clause-number c =
 pub returns-in-Ok-clause-ok : goal.returns-in-Ok-clause-ok
 returns-in-Ok-clause-ok c =
     takes-request c.args.core.now c.ask.new.self c.args.moment c.in-Ok.field-0 c.off.result c.in-Ok-Ok-Ok.plan
-        c.args.client.now c.args.target.now
+    c.args.client.now c.args.target.now
     (c.off.ensures ∙ ap₂ off_ask c.in-Ok-Ok-Ok.ensures c.in-Ok-Ok-Ok.ensures') c.in-Ok-Ok-Ok.ensures''
-        c.requires.session c.requires.device c.requires.free c.requires.later c.in-Ok.ensures.number c.in-Ok.ensures.ok
+    c.requires.session c.requires.device c.requires.free c.requires.later c.in-Ok.ensures.number c.in-Ok.ensures.ok
 
 pub returns-in-Err-Full-clause-full : goal.returns-in-Err-Full-clause-full
 returns-in-Err-Full-clause-full c =
@@ -52,13 +52,13 @@ returns-in-Err-NoMemory-clause-ok c =
     takes-refusal (request_input c.args.moment c.args.client.now c.args.target.now c.args.core.now.history)
     c.args.core.now c.refuse-in-Err-NoMemory.new.core c.args.line c.refuse-in-Err-NoMemory.result refl c.requires.number
     (takes-after (refused c.args.moment c.args.line Cause.NoMemory) c.args.core.now c.ask.new.self
-        c.refuse-in-Err-NoMemory.new.core c.refuse-in-Err-NoMemory.result c.requires.later c.in-Err-NoMemory.ensures.err
-        c.refuse-in-Err-NoMemory.ensures.ok)
+    c.refuse-in-Err-NoMemory.new.core c.refuse-in-Err-NoMemory.result c.requires.later c.in-Err-NoMemory.ensures.err
+    c.refuse-in-Err-NoMemory.ensures.ok)
 
 pub returns-in-Err-NoMemory-clause-full : goal.returns-in-Err-NoMemory-clause-full
 returns-in-Err-NoMemory-clause-full c =
     lacks-refusal (request_input c.args.moment c.args.client.now c.args.target.now c.args.core.now.history)
     c.args.core.now c.refuse-in-Err-NoMemory.new.core c.args.line c.refuse-in-Err-NoMemory.result refl c.requires.number
     (lacks-after (refused c.args.moment c.args.line Cause.NoMemory) c.args.core.now c.ask.new.self
-        c.refuse-in-Err-NoMemory.new.core c.refuse-in-Err-NoMemory.result c.requires.later c.in-Err-NoMemory.ensures.err
-        c.refuse-in-Err-NoMemory.ensures.full)
+    c.refuse-in-Err-NoMemory.new.core c.refuse-in-Err-NoMemory.result c.requires.later c.in-Err-NoMemory.ensures.err
+    c.refuse-in-Err-NoMemory.ensures.full)
