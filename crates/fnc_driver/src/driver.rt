@@ -26,7 +26,7 @@ use std::test::Fail;
 fn leaves_few_names(core: &Core, event: &Event) -> bool
     requires sound { Sound core.now }
     requires ordered { in_order event.now core.now.history ≡ true }
-    ensures { OnTrue result ((moment : ℕ) → LeavesFewNames moment event.now core.now.history) }
+    ensures { OnTrue result ((m : ℕ) → LeavesFewNames m event.now core.now.history) }
 {
     match event {
         Event::Device(device) => (device.reg.0 as usize) < MOST_DEVICES,
@@ -38,10 +38,10 @@ fn leaves_few_names(core: &Core, event: &Event) -> bool
 fn change_of(core: &Core, event: Event) -> Option<Change>
     requires ordered { in_order event core.now.history ≡ true }
     requires bounded { IsBoundedEvent event }
-    requires few { (moment : ℕ) → LeavesFewNames moment event core.now.history }
+    requires few { (m : ℕ) → LeavesFewNames m event core.now.history }
     ensures ordered { IfSome result (λ c. in_order (event_of core.now.history c) core.now.history ≡ true) }
     ensures bounded { IfSome result (λ c. IsBoundedEvent (event_of core.now.history c)) }
-    ensures few { IfSome result (λ c. (moment : ℕ) → LeavesFewNames moment (event_of core.now.history c) core.now.history) }
+    ensures few { IfSome result (λ c. (m : ℕ) → LeavesFewNames m (event_of core.now.history c) core.now.history) }
 {
     match event {
         Event::Device(device) => Some(Change::Device(device.registration)),
