@@ -1,6 +1,7 @@
 -- Which requests the core may be asked.
 use Rattle.std.specs.Prelude.{◌≡◌, ◌≤◌, true}
 use Rattle.fnc_journal.specs.declared.entry.Scope.{Scope}
+use Rattle.fnc_journal.specs.declared.limits.TheConstants.{DAY}
 use Rattle.fnc_journal.specs.History.{History}
 use Rattle.fnc_journal.specs.Lawful.{may_ask}
 use Rattle.fnc_journal.specs.Levels.{is_in_place}
@@ -10,5 +11,5 @@ use Rattle.fnc_core.specs.declared.change.Ask.{Ask}
 pub record IsAskable (a : Ask) (scope : Scope) (h : History) : Type 0 where
   pub kind : may_ask a.kind ≡ true
   pub some_time : 1 ≤ a.total
-  pub most_time : a.total ≤ 86_400_000
+  pub most_time : a.total ≤ DAY
   pub in_place : is_in_place scope a.target h ≡ true
