@@ -1,6 +1,5 @@
 -- A session that registers few devices in all leaves few names registered.
 use Rattle.std.proofs.Common.{ℕ, Bool, true, false, ◌≡◌, ◌<◌, refl, arith}
-use Rattle.std.specs.Prelude.{⊥, tt}
 use Rattle.std.specs.Bool.{OnTrue}
 use borrow.Author.Tests.{eqb-true}
 use Rattle.fnc_journal.specs.declared.event.Event.{Event}
