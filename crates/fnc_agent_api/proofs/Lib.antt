@@ -5,3 +5,4 @@ pub mod OptionLemmas
 pub mod PairsSoFar
 pub mod ReadsBack
 pub mod ItemsSeen
+pub mod DescriptionBounds

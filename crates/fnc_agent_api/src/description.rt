@@ -1,10 +1,11 @@
 // The description of an agent, which is a JSON object.
 
 ghost use Rattle.std.specs.Prelude.{◌≡◌, ◌≤◌, Some, Ok, Err, IfOk, IfErr, option_map, option_and_then, is_some, codes};
-ghost use Rattle.std.specs.Prelude.{length};
+ghost use Rattle.std.specs.Prelude.{length, IsTrue};
 ghost use Rattle.std.specs.List.{list_all, list_any};
 ghost use Rattle.serde_json.specs.View.{view, items_view};
 ghost use Rattle.serde_json.specs.Find.{as_array, as_str, get};
+ghost use Rattle.fnc_journal.specs.EntryBounds.{is_described};
 ghost use Rattle.fnc_agent_api.specs.Descriptions as described;
 
 use fnc_journal::limits::MOST_PARAMETERS;
@@ -52,7 +53,8 @@ impl From<NoMemory> for DescribeFault {
 /// `name` that an option can have and, where the parameter must be given, `required`. So may
 /// `target_parameter`, the name of the parameter that takes the node. Of equal keys the last counts.
 pub fn read_description(alloc: Global, json: &[u8]) -> Result<Description, DescribeFault>
-    ensures { described.Gives result (described.described json.now) }
+    ensures value { described.Gives result (described.described json.now) }
+    ensures bounded { IfOk result (λ d. IsTrue (is_described d)) }
 {
     let value = read_value(alloc, json)?;
     describe(alloc, &value)
@@ -60,7 +62,8 @@ pub fn read_description(alloc: Global, json: &[u8]) -> Result<Description, Descr
 
 /// The description of an agent of which nothing was told: it switches on and off and reboots.
 pub fn plain_description(alloc: Global) -> Result<Description, NoMemory>
-    ensures { result ≡ Ok described.plain }
+    ensures value { result ≡ Ok described.plain }
+    ensures bounded { IfOk result (λ d. IsTrue (is_described d)) }
 {
     Ok(Description {
         actions: Actions {

@@ -11,7 +11,7 @@ use Rattle.fnc_journal.specs.declared.entry.LevelTarget.{LevelTarget}
 use Rattle.fnc_text.specs.declared.duration.DurationFault.{DurationFault}
 use Rattle.fnc_text.specs.Digits.{number, is_number, digits_value, at_most}
 use Rattle.fnc_text.specs.Durations.{duration, counted, within_a_day, unit, after_digits}
-use Rattle.fnc_text.specs.Names.{is_name}
+use Rattle.fnc_journal.specs.Names.{is_name}
 use Rattle.fnc_command.specs.Answers.{and_then}
 use Rattle.fnc_command.specs.Fields.{passing, bytes_of, text_of, name_of, agent_of, is_agent_name, number_of, action, action_of}
 use Rattle.fnc_command.specs.Levels.{is_marked, is_pattern, pattern_of, target_of, comma_parts, all_names, devices_of}

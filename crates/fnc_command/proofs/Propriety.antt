@@ -6,7 +6,7 @@ use Rattle.fnc_journal.specs.declared.limits.TheConstants.{DEFAULT_TOTAL}
 use Rattle.fnc_journal.specs.declared.cause.Cause.{Cause}
 use Rattle.fnc_text.specs.Digits.{number}
 use Rattle.fnc_text.specs.Durations.{duration}
-use Rattle.fnc_text.specs.Names.{is_name}
+use Rattle.fnc_journal.specs.Names.{is_name}
 use Rattle.fnc_command.specs.declared.ask.AskOptions.{AskOptions}
 use Rattle.fnc_command.specs.declared.ask.OptionName.{OptionName}
 use Rattle.fnc_command.specs.declared.command.Command.{Command}
@@ -14,10 +14,10 @@ use Rattle.fnc_command.specs.declared.command.Mode.{Mode}
 use Rattle.fnc_command.specs.declared.head.Verb.{Verb}
 use Rattle.fnc_command.specs.Answers.{and_then}
 use Rattle.fnc_command.specs.Cuts.{none, one, two, three}
-use Rattle.fnc_command.specs.Fields.{passing, bytes_of, name_of, agent_of, is_agent_name, number_of, action_of, exit_of}
+use Rattle.fnc_command.specs.Fields.{passing, bytes_of, text_of, name_of, agent_of, is_agent_name, number_of, action_of, exit_of}
 use Rattle.fnc_command.specs.Levels.{target_of, devices_of, level_of, unlevel_of}
 use Rattle.fnc_command.specs.Options.{cut_option, agent_word, option_words, optional_agent, pairs_of, said_device}
-use Rattle.fnc_command.specs.Asks.{Asking, asking, ask_of, coin_name, option_name, at_least_one, with_option, with_cut, with_words, no_options}
+use Rattle.fnc_command.specs.Asks.{Asking, asking, ask_of, coin_name, option_name, at_least_one, with_option, value_of, with_cut, with_words, no_options}
 use Rattle.fnc_command.specs.Commands.{Ended, ended, ended_of, exit_words, remove_of, confirm_of, agent_line, said_exit}
 use Rattle.fnc_command.specs.Lines.{command, said_after, exit_at, exit_said}
 use Rattle.fnc_command.specs.Proper.{IsTimed, IsAskable, IsProperTarget, IsProperCoin, IsProperCommand}
@@ -103,13 +103,14 @@ option_name-timed mode name = go (bytes_eq name (codes "total"))
 cut-proper : (mode : Mode) (before : AskOptions) (word : List ℕ) (cut : Option (List ℕ × List ℕ))
     → IsProperOptions mode before → IfOk (with_cut mode before word cut) (IsProperOptions mode)
 cut-proper mode before word None h =
-    each Anything (IsProperOptions mode) (bytes_of word) (λ bytes. Err Cause.BadWord) (any (bytes_of word))
-    (λ bytes u. tt)
+    each Anything (IsProperOptions mode) (text_of word) (λ t. Err Cause.BadWord) (any (text_of word))
+    (λ t u. tt)
 cut-proper mode before word (Some cut) h =
-    each Anything (IsProperOptions mode) (bytes_of cut.0) (λ name.
-    and_then (bytes_of cut.1) (λ value. with_option before value (option_name mode name))) (any (bytes_of cut.0))
-    (λ name u. each Anything (IsProperOptions mode) (bytes_of cut.1) (λ value.
-    with_option before value (option_name mode name)) (any (bytes_of cut.1))
+    each Anything (IsProperOptions mode) (text_of cut.0) (λ name.
+    and_then (value_of (option_name mode name) cut.1) (λ value. with_option before value (option_name mode name)))
+    (any (text_of cut.0))
+    (λ name u. each Anything (IsProperOptions mode) (value_of (option_name mode name) cut.1) (λ value.
+    with_option before value (option_name mode name)) (any (value_of (option_name mode name) cut.1))
     (λ value v. option-proper mode before value (option_name mode name) (option_name-timed mode name) h))
 
 options-proper : (mode : Mode) (before : AskOptions) (ws : List (List ℕ)) → IsProperOptions mode before

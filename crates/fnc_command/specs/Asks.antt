@@ -29,7 +29,7 @@ use Rattle.fnc_command.specs.declared.ask.OptionName.{OptionName}
 use Rattle.fnc_command.specs.declared.command.Command.{Command}
 use Rattle.fnc_command.specs.declared.command.Mode.{Mode}
 use Rattle.fnc_command.specs.Answers.{and_then}
-use Rattle.fnc_command.specs.Fields.{passing, bytes_of, name_of, action_of}
+use Rattle.fnc_command.specs.Fields.{passing, bytes_of, text_of, name_of, action_of}
 use Rattle.fnc_command.specs.Options.{cut_option}
 
 -- the words after `ask`: three, and at most two option words
@@ -70,11 +70,16 @@ with_option before value (Some OptionName.Coin) =
     and_then (ok_or (number 18446744073709551615 value) Cause.BadNumber) (λ n.
     passing Cause.BadWord (is_none before.coin) (record before { coin = Some n }))
 
--- a word that was cut at its equals sign, beside the options before it
+-- the value that a word spells: that of the coin is a number, any other is a text
+abbrev pub value_of : Option OptionName → List ℕ → Result (List ℕ) Cause
+value_of (Some OptionName.Coin) word = bytes_of word
+value_of _ word = text_of word
+
+-- a word that was cut at its equals sign, beside the options before it. A name is a text
 abbrev pub with_cut : Mode → AskOptions → List ℕ → Option (List ℕ × List ℕ) → Result AskOptions Cause
-with_cut mode before word None = and_then (bytes_of word) (λ bytes. Err Cause.BadWord)
+with_cut mode before word None = and_then (text_of word) (λ t. Err Cause.BadWord)
 with_cut mode before word (Some cut) =
-    and_then (bytes_of cut.0) (λ name. and_then (bytes_of cut.1) (λ value.
+    and_then (text_of cut.0) (λ name. and_then (value_of (option_name mode name) cut.1) (λ value.
     with_option before value (option_name mode name)))
 
 -- the options of words, beside those before them

@@ -25,7 +25,7 @@ use Rattle.fnc_journal.specs.declared.entry.Exit.{Exit}
 use Rattle.fnc_text.specs.declared.escape.EscapeFault.{EscapeFault}
 use Rattle.fnc_text.specs.Digits.{number}
 use Rattle.fnc_text.specs.Escapes.{unescaped}
-use Rattle.fnc_text.specs.Names.{is_name}
+use Rattle.fnc_journal.specs.Names.{is_name}
 use Rattle.fnc_command.specs.Answers.{and_then}
 
 -- a fault of escapes is one cause

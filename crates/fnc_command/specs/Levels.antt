@@ -19,7 +19,7 @@ use Rattle.std.specs.List.{list_all, slice_split}
 use Rattle.fnc_journal.specs.declared.limits.TheConstants.{LONGEST_NAME}
 use Rattle.fnc_journal.specs.declared.cause.Cause.{Cause}
 use Rattle.fnc_journal.specs.declared.entry.LevelTarget.{LevelTarget}
-use Rattle.fnc_text.specs.Names.{is_name}
+use Rattle.fnc_journal.specs.Names.{is_name}
 use Rattle.fnc_command.specs.declared.command.Command.{Command}
 use Rattle.fnc_command.specs.Answers.{and_then}
 use Rattle.fnc_command.specs.Cuts.{two, three}

@@ -4,7 +4,7 @@ use Rattle.std.specs.List.{list_all}
 use Rattle.fnc_journal.specs.declared.limits.TheConstants.{DAY, GREATEST_MOMENT}
 use Rattle.fnc_journal.specs.declared.entry.Kind.{Kind}
 use Rattle.fnc_journal.specs.declared.entry.LevelTarget.{LevelTarget}
-use Rattle.fnc_text.specs.Names.{is_name}
+use Rattle.fnc_journal.specs.Names.{is_name}
 use Rattle.fnc_command.specs.declared.command.Command.{Command}
 use Rattle.fnc_command.specs.declared.command.ExitRead.{ExitRead}
 use Rattle.fnc_command.specs.declared.command.Mode.{Mode}

@@ -4,7 +4,7 @@ ghost use Rattle.std.specs.Prelude.{◌≡◌, ◌≤◌, length, nat_le, IfOk, 
 ghost use Rattle.fnc_text.specs.Words.{words};
 ghost use Rattle.fnc_command.specs.Answers.{Tells};
 ghost use Rattle.fnc_command.specs.Asks.{asking, option_name, at_least_one, with_option, with_cut, with_words};
-ghost use Rattle.fnc_command.specs.Asks.{no_options, said_ask};
+ghost use Rattle.fnc_command.specs.Asks.{no_options, said_ask, value_of};
 ghost use Rattle.fnc_command.specs.Options.{cut_option};
 ghost use Rattle.fnc_command.specs.declared.ask.OptionName.{OptionName};
 ghost use Rattle.fnc_text.specs.Durations.{duration};
@@ -12,7 +12,7 @@ ghost use Rattle.fnc_text.specs.Durations.{duration};
 use crate::command::{Command, Mode};
 use crate::field::{action, is_word, name};
 use crate::option_word::cut_option;
-use crate::spelling::spell;
+use crate::spelling::{spell, spell_text};
 use crate::word::{first_word, wanted_word};
 use fnc_journal::Cause;
 use fnc_journal::limits::DEFAULT_TOTAL;
@@ -131,13 +131,26 @@ fn with_word(
     ensures size { out.new.size ≡ out.old.size }
 {
     let Some((name, value)) = cut_option(word) else {
-        spell(word, out)?;
+        spell_text(word, out)?;
         return Err(Cause::BadWord);
     };
-    spell(name, out)?;
+    spell_text(name, out)?;
     let name = option_name(out.bytes(), mode);
-    spell(value, out)?;
+    spell_value(name, value, out)?;
     with_option(before, out.bytes(), name)
+}
+
+/// Puts the value of an option into a buffer: that of the coin is a number, any other is a text.
+fn spell_value(name: Option<OptionName>, value: &[u8], out: &mut LineBuf) -> Result<(), Cause>
+    requires { length value.now ≤ out.old.size }
+    ensures read { MatchResult result (λ _. value_of name value.now ≡ Ok out.new.bytes) (λ cause.
+        value_of name value.now ≡ Err cause) }
+    ensures size { out.new.size ≡ out.old.size }
+{
+    match name {
+        Some(OptionName::Coin) => spell(value, out),
+        _ => spell_text(value, out),
+    }
 }
 
 fn option_name(name: &[u8], mode: Mode) -> Option<OptionName>

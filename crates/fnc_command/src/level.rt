@@ -2,7 +2,7 @@
 
 ghost use Rattle.std.specs.Prelude.{◌≡◌, ◌≤◌, length, IfOk, IsTrue, Ok};
 ghost use Rattle.std.specs.List.{list_all};
-ghost use Rattle.fnc_text.specs.Names.{is_name};
+ghost use Rattle.fnc_journal.specs.Names.{is_name};
 ghost use Rattle.fnc_text.specs.Words.{words};
 ghost use Rattle.fnc_command.specs.Answers.{Tells};
 ghost use Rattle.fnc_command.specs.Levels.{is_marked, pattern_of, target_of, comma_parts, devices_of, said_level};

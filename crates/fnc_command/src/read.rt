@@ -14,6 +14,7 @@ use crate::command::{Command, ExitRead, Mode, Read};
 use crate::device::read_device;
 use crate::head::{Head, Verb, read_head};
 use crate::level::{read_level, read_unlevel};
+use crate::spelling::is_utf8;
 use crate::verb::{read_agent, read_confirm, read_ended, read_exit_words, read_pass, read_remove};
 use fnc_journal::Cause;
 use fnc_journal::limits::LONGEST_LINE;
@@ -59,15 +60,6 @@ fn check_readable(line: &[u8]) -> Result<(), Cause>
         return Err(Cause::NotUtf8);
     }
     Ok(())
-}
-
-fn is_utf8(line: &[u8]) -> bool
-    ensures { result ≡ is_utf8 line.now }
-{
-    match from_utf8(line) {
-        Ok(_) => true,
-        Err(_) => false,
-    }
 }
 
 /// A buffer for the words of a line.

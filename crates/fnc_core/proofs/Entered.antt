@@ -45,7 +45,7 @@ use Rattle.fnc_ops.specs.Stands.{StandsFor, AreAt, AreBounded}
 use Rattle.fnc_queue.specs.Queued.{Queued}
 use Rattle.fnc_ops.proofs.StandsQuiet.{is_untold, stands-quiet}
 use Rattle.fnc_core.specs.Between.{Between, Rests, Adds, RoomFor, is_quiet, IsBoundedEvent, MayContinue, entry}
-use Rattle.fnc_core.specs.Known.{LeavesFewNames}
+use Rattle.fnc_journal.specs.Known.{LeavesFewNames}
 use Rattle.fnc_core.specs.Parted.{Parted}
 use Rattle.fnc_core.specs.Wanted.{Waits, HasPlaces, wanted, item_for, held}
 use Rattle.fnc_core.proofs.HeldOpen.{held_of, held-stands}

@@ -72,7 +72,7 @@ use Rattle.fnc_journal.proofs.Each.{each-map}
 use Rattle.fnc_journal.proofs.RisingLevels.{Above, Rising, scoped-rising}
 use Rattle.fnc_ops.specs.Stands.{AreFewDevices}
 use Rattle.fnc_core.specs.Between.{IsBoundedEvent, IsPlanOf, entry}
-use Rattle.fnc_core.specs.Known.{
+use Rattle.fnc_journal.specs.Known.{
   IsBoundedLevel,
   IsSmallLevel,
   KnowsFew,

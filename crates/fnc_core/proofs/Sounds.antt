@@ -35,7 +35,7 @@ use Rattle.fnc_journal.specs.Operations.{open_operations, settled, unanswered, i
 use Rattle.fnc_journal.specs.Owed.{owed, owed_by, owed_by_all, untried}
 use Rattle.fnc_journal.specs.Lawful.{last_moment}
 use Rattle.fnc_journal.specs.Startable.{Begun, alive_runs}
-use Rattle.fnc_core.specs.Known.{KnowsFew}
+use Rattle.fnc_journal.specs.Known.{KnowsFew}
 use Rattle.fnc_core.specs.Parted.{Parted}
 use Rattle.fnc_core.specs.Between.{Rests, IsNextStart}
 use Rattle.fnc_core.specs.Cored.{Cored, Sound, IsFirstStart}

@@ -46,7 +46,7 @@ use Rattle.fnc_core.specs.declared.change.Ask.{Ask}
 use Rattle.fnc_core.specs.declared.change.Started.{Started}
 use Rattle.fnc_ops.specs.declared.ops.Operation.{Operation as Begun}
 use Rattle.fnc_ops.specs.Stands.{StandsFor, AreAt, AreBounded}
-use Rattle.fnc_core.specs.Known.{KnowsFew, IsSmallLevel}
+use Rattle.fnc_journal.specs.Known.{KnowsFew, IsSmallLevel}
 use Rattle.fnc_core.specs.Limits.{limit_at}
 use Rattle.fnc_core.specs.Parted.{Parted}
 use Rattle.fnc_core.specs.Wanted.{Waits, Lanes, HasPlaces}
@@ -159,10 +159,14 @@ request_of req lead a scope = record {
   scope = scope;
 }
 
+-- the allowed tries of all slots of the operation that a request begins
+abbrev pub tries_with : History → ℕ → Req → Ask → Plan → ℕ
+tries_with h m req a p = tries_of (all_slots (operation_with h m req a p))
+
 -- the entries that a request wants which begins an operation: its own, its reply, and a start and an exit for each
 -- try
 abbrev pub need_of : History → ℕ → Req → Ask → Plan → ℕ
-need_of h m req a p = 2 + 2 * tries_of (all_slots (operation_with h m req a p))
+need_of h m req a p = 2 + 2 * tries_with h m req a p
 
 -- the journal has one more entry, a reply
 pub record AddsReply (m : ℕ) (old new : Parted) : Type 0 where

@@ -34,7 +34,7 @@ use Rattle.fnc_journal.specs.Slots.{Operation}
 use Rattle.fnc_journal.specs.Startable.{alive_runs, Startable, first}
 use Rattle.fnc_journal.specs.Acts.{acts, runs, limit}
 use Rattle.fnc_core.specs.Between.{need_of, limit_from, request_of, start_of}
-use Rattle.fnc_core.specs.Known.{KnowsFew}
+use Rattle.fnc_journal.specs.Known.{KnowsFew}
 use Rattle.fnc_core.specs.declared.change.Ask.{Ask}
 use Rattle.fnc_core.specs.declared.change.Change.{Change}
 use Rattle.fnc_core.specs.declared.change.Started.{Started}

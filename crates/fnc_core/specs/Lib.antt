@@ -1,5 +1,4 @@
 -- What contracts of the core speak of.
-pub mod Known
 pub mod Parted
 pub mod Wanted
 pub mod Between

@@ -6,7 +6,7 @@ ghost use Rattle.fnc_journal.specs.Operations.{joined};
 ghost use Rattle.fnc_journal.specs.Owed.{owed};
 ghost use Rattle.fnc_journal.specs.Lawful.{in_order};
 ghost use Rattle.fnc_core.specs.Between.{Between, Rests, Adds, Stays, RoomFor};
-ghost use Rattle.fnc_core.specs.Between.{IsPlanOf, need_of, operation_asked, request_of};
+ghost use Rattle.fnc_core.specs.Between.{IsPlanOf, need_of, operation_asked, request_of, tries_with};
 
 use crate::change::Ask;
 use crate::parts::Parts;
@@ -67,8 +67,8 @@ impl Parts {
         Ok(())
     }
 
-    /// A request begins an operation of its own, with a plan, and with a place in the queue for each entry that is
-    /// owed then.
+    /// A request begins an operation of its own, with a plan and with the allowed tries of all its slots, and with a
+    /// place in the queue for each entry that is owed then.
     pub fn begin(
         &mut self,
         alloc: Global,
@@ -76,11 +76,13 @@ impl Parts {
         req: Req,
         ask: Ask,
         plan: Plan,
+        tries: u32,
     ) -> Result<(), NoMemory>
         requires rests { Rests moment self.old }
         requires ordered { in_order (Event.Ask (request_of req req ask plan.scope)) self.old.history ≡ true }
         requires leads { joined self.old.history moment ask.kind ask.target ≡ None }
         requires planned { IsPlanOf self.old.history moment ask.kind ask.target plan }
+        requires tries { tries ≡ tries_with self.old.history moment req ask plan }
         requires room { RoomFor self.old (need_of self.old.history moment req ask plan) }
         requires places { owed self.old.history + need_of self.old.history moment req ask plan ≤ self.old.queue.spare }
         ensures between { OnOk result (Between moment self.new) }
@@ -89,7 +91,8 @@ impl Parts {
     {
         let operation = operation_of(alloc, moment, req, &ask)?;
         let request = Boxed::new(alloc, ask.into_request(req, req, plan.scope))?;
-        self.ops.begin(alloc, &self.journal, operation, plan)?;
+        self.ops
+            .begin(alloc, &self.journal, operation, plan, tries)?;
         self.journal.push(Entry {
             moment,
             event: Event::Ask(request),

@@ -1,12 +1,12 @@
 // What enters the core at its last moment, where there is room for it.
 
-ghost use Rattle.std.specs.Prelude.{◌≡◌, ◌≤◌, true, false, Some, None, OnOk, OnErr, IfErr};
+ghost use Rattle.std.specs.Prelude.{◌≡◌, ◌≤◌, ◌+◌, ◌*◌, true, false, Some, None, OnOk, OnErr, IfErr};
 ghost use Rattle.fnc_journal.specs.declared.event.Event.{Event};
 ghost use Rattle.fnc_journal.specs.Found.{is_device};
 ghost use Rattle.fnc_journal.specs.Lawful.{in_order, may_ask};
 ghost use Rattle.fnc_journal.specs.Operations.{joined};
-ghost use Rattle.fnc_core.specs.Known.{LeavesFewNames};
-ghost use Rattle.fnc_core.specs.Between.{IsBoundedEvent, IsPlanOf, is_quiet, need_of, request_of};
+ghost use Rattle.fnc_journal.specs.Known.{LeavesFewNames};
+ghost use Rattle.fnc_core.specs.Between.{IsBoundedEvent, IsPlanOf, is_quiet, need_of, request_of, tries_with};
 ghost use Rattle.fnc_journal.specs.Levels.{is_in_place};
 ghost use Rattle.fnc_core.specs.Cored.{Follows, HasRoom, IsRefusal, IsAskRefusal};
 ghost use Rattle.fnc_core.specs.Cored.{ask_event, ask_need, event_of, joined_in, lead_in, next_of};
@@ -18,6 +18,15 @@ use fnc_journal::limits::DAY;
 use fnc_journal::{Event, Plan, Reg, Registered, Req, Scope};
 use fnc_ops::allowed_tries;
 use std::alloc::Global;
+
+/// The entries that a request wants which begins an operation with so many allowed tries: its own, its reply, and a
+/// start and an exit for each of them.
+fn need(tries: u32) -> u32
+    requires few { tries ≤ 6_400 }
+    ensures { result ≡ 2 + 2 * tries }
+{
+    2 * tries + 2
+}
 
 impl Core {
     /// An input that touches no operation.
@@ -80,13 +89,13 @@ impl Core {
         Ok(())
     }
 
-    /// The entries that a request wants which begins an operation: its own, its reply, and a start and an exit for
-    /// each allowed try.
-    fn need(&self, ask: &Ask, plan: &Plan) -> u32
+    /// The allowed tries of all slots of the operation that a request begins.
+    fn tries(&self, ask: &Ask, plan: &Plan) -> u32
         requires planned { IsPlanOf self.now.history self.now.last ask.now.kind ask.now.target plan.now }
-        ensures { result ≡ need_of self.now.history self.now.last (next_of self.now) ask.now plan.now }
+        ensures tries { result ≡ tries_with self.now.history self.now.last (next_of self.now) ask.now plan.now }
+        ensures few { result ≤ 6_400 }
     {
-        2 + 2 * allowed_tries(&self.parts.journal, ask.kind, plan)
+        allowed_tries(&self.parts.journal, ask.kind, plan)
     }
 
     /// A request begins an operation of its own, with a plan, and with the replies that it makes due.
@@ -103,11 +112,12 @@ impl Core {
             (IsRefusal self.new (need_of self.old.history self.old.last (next_of self.old) ask plan)) }
         ensures err { OnErr result (self.new ≡ self.old) }
     {
-        let need = self.need(&ask, &plan);
+        let tries = self.tries(&ask, &plan);
+        let need = need(tries);
         let owing = self.owing(need)?;
         self.parts.reserve(self.last, owing + need)?;
         self.parts
-            .begin(alloc, self.last, Req(self.next_req), ask, plan)?;
+            .begin(alloc, self.last, Req(self.next_req), ask, plan, tries)?;
         self.next_req += 1;
         self.parts.give_replies(self.last);
         Ok(())

@@ -5,7 +5,7 @@ ghost use Rattle.fnc_journal.specs.declared.event.Event.{Event};
 ghost use Rattle.fnc_journal.specs.Found as Found;
 ghost use Rattle.fnc_journal.specs.Startable as Startable;
 ghost use Rattle.fnc_journal.specs.Lawful.{in_order};
-ghost use Rattle.fnc_core.specs.Known.{LeavesFewNames};
+ghost use Rattle.fnc_journal.specs.Known.{LeavesFewNames};
 ghost use Rattle.fnc_core.specs.Between.{Between, Rests, Adds, RoomFor, is_quiet, IsBoundedEvent};
 
 use crate::parts::Parts;
@@ -62,7 +62,7 @@ impl Parts {
         ensures between { Between moment self.new }
         ensures adds { Adds moment (Event.Exit ended) self.old self.new }
     {
-        self.ops.ended(&self.journal, ended, moment);
+        self.ops.ended(&self.journal, &start, ended, moment);
         self.queue.ended(self.journal.lane(start.reg));
         self.journal.push(Entry {
             moment,

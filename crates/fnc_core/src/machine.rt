@@ -3,7 +3,7 @@
 ghost use Rattle.std.specs.Prelude.{◌≡◌, ◌<◌, ◌≤◌, ◌+◌, ◌↔◌, [], true, None, option_map};
 ghost use Rattle.std.specs.Prelude.{IsOk, IsNone, IfOk, IfErr, IfNone, IfSome, OnOk, OnErr};
 ghost use Rattle.fnc_journal.specs.declared.event.Event.{Event};
-ghost use Rattle.fnc_journal.specs.Found.{asks};
+ghost use Rattle.fnc_journal.specs.Found.{asks, devices};
 ghost use Rattle.fnc_journal.specs.Lawful.{in_order, may_ask};
 ghost use Rattle.fnc_journal.specs.Levels.{is_in_place};
 ghost use Rattle.fnc_journal.specs.Owed.{owed};
@@ -11,14 +11,14 @@ ghost use Rattle.fnc_journal.specs.Startable.{first, is_alive};
 ghost use Rattle.fnc_core.specs.Between.{IsBoundedEvent, IsPlanOf};
 ghost use Rattle.fnc_core.specs.Cored.{Sound, HasRoom, IsFull, IsIdle, IsAskRefusal, IsStart, event_of, joined_in};
 ghost use Rattle.fnc_core.specs.Cored.{Advances, Enters, Asks, Starts};
-ghost use Rattle.fnc_core.specs.Known.{LeavesFewNames};
+ghost use Rattle.fnc_journal.specs.Known.{LeavesFewNames};
 
 use crate::change::{Ask, Change, Started};
 use crate::parts::Parts;
 use crate::refusal::{AskRefusal, UnknownRun};
 use fnc_journal::limits::{DAY, GREATEST_JOURNAL, GREATEST_MOMENT, LEAST_JOURNAL};
 use fnc_journal::{
-    Cause, Ended, Event, Exit, Full, Journal, Kind, NoMemory, Plan, Refusal, Req, Run,
+    Cause, Ended, Event, Exit, Full, Journal, Kind, NoMemory, Plan, Refusal, Reg, Req, Run,
 };
 use fnc_ops::Ops;
 use fnc_queue::Queue;
@@ -98,6 +98,13 @@ impl Core {
         journal
     }
 
+    /// The number that the next device gets.
+    pub fn next_reg(&self) -> Reg
+        ensures { result.0 ≡ devices self.now.history }
+    {
+        Reg(self.next_reg)
+    }
+
     /// The operation that a request for a target and an action would join at the last moment. None where it would
     /// begin its own.
     pub fn joinable(&self, target: &str, kind: Kind) -> Option<Req>
@@ -118,6 +125,7 @@ impl Core {
         ensures ok { IfOk result (λ owing. owing ≡ owed self.now.history) }
         ensures room { OnOk result (HasRoom self.now need) }
         ensures full { IfErr result (IsFull self.now need) }
+        ensures sound { Sound self.now }
     {
         let full = Full {
             entries: self.parts.journal.len(),
@@ -138,6 +146,7 @@ impl Core {
     pub fn room(&self, need: u32) -> Result<(), Full>
         ensures ok { OnOk result (HasRoom self.now need) }
         ensures full { IfErr result (IsFull self.now need) }
+        ensures sound { Sound self.now }
     {
         self.owing(need)?;
         Ok(())

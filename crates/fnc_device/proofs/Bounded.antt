@@ -3,7 +3,7 @@ use Rattle.std.proofs.Common.{◌≡◌, ℕ, true, List, length, Result, Ok, Er
 use Rattle.std.specs.Prelude.{IfOk, nat_le, codes}
 use Rattle.std.specs.List.{list_all}
 use Rattle.std.proofs.lemmas.Bool.{and_parts, le-leb, leb-true}
-use Rattle.fnc_journal.specs.declared.limits.TheConstants.{LONGEST_VALUE, MOST_HOSTS}
+use Rattle.fnc_journal.specs.declared.limits.TheConstants.{LONGEST_VALUE, MOST_HOSTS, MOST_PARAMETERS}
 use Rattle.fnc_journal.specs.declared.definition.Actions.{Actions}
 use Rattle.fnc_journal.specs.declared.definition.Allowed.{Allowed}
 use Rattle.fnc_journal.specs.declared.definition.Base.{Base}
@@ -14,7 +14,20 @@ use Rattle.fnc_journal.specs.declared.entry.Kind.{Kind}
 use Rattle.fnc_journal.specs.declared.names.Pair.{Pair}
 use Rattle.fnc_hosts.specs.Hosts.{host_list, host_map}
 use Rattle.fnc_hosts.specs.Checks.{check_kind}
-use Rattle.fnc_journal.specs.Bounds.{IsBounded, is_allowed, is_base, is_cap, is_host, is_host_pair, is_option_value, is_priority, is_time, is_value_byte}
+use Rattle.fnc_journal.specs.Bounds.{
+  IsBounded,
+  is_allowed,
+  is_base,
+  is_cap,
+  is_carrier,
+  is_host,
+  is_host_pair,
+  is_option_value,
+  is_priority,
+  is_time,
+  is_value_byte,
+}
+use Rattle.fnc_journal.specs.EntryBounds.{is_described, is_parameter}
 use Rattle.fnc_device.specs.declared.allowance.Allowances.{Allowances}
 use Rattle.fnc_device.specs.declared.fault.DefineFault.{DefineFault}
 use Rattle.fnc_device.specs.declared.nodes.Nodes.{Nodes}
@@ -26,7 +39,6 @@ use Rattle.fnc_device.specs.Times.{time}
 use Rattle.fnc_device.specs.Schedules.{base_of, limit_of, priority_of, schedule}
 use Rattle.fnc_device.specs.Allowances.{allowed, allowances}
 use Rattle.fnc_device.specs.Definitions.{all_given, define}
-use Rattle.fnc_device.specs.Bounds.{IsFitDescription}
 use Rattle.fnc_device.proofs.Inversion.{bind_ok, same_Ok, or_fault_is}
 use Rattle.fnc_device.proofs.HostBounds.{hosts_are, pairs_are}
 use Rattle.fnc_device.proofs.OptionBounds.{options_are, value_is, own_are, own_few, carrier_is}
@@ -201,8 +213,12 @@ module _ (options : List Pair) where
     abbrev with_nodes : Nodes → Result Definition DefineFault
     with_nodes nodes = schedule options >>= with_schedule nodes
 
-    bounded : IsFitDescription description → (d : Definition) → define options description ≡ Ok d → IsBounded d
+    bounded : is_described description ≡ true → (d : Definition) → define options description ≡ Ok d → IsBounded d
     bounded fit d h =
+        let told = and_parts _ (is_carrier description.target) fit in
+        let few = and_parts _ (list_all is_parameter description.parameters) told.0 in
+        let off =
+        and_parts description.actions.off (nat_le (length description.parameters) MOST_PARAMETERS) few.0 in
         let right = bind_ok (right_options options) (λ formed. nodes options description.actions >>= with_nodes) d h in
         let named = bind_ok (nodes options description.actions) with_nodes d right.2 in
         let starts = bind_ok (schedule options) (with_schedule named.0) d named.2 in
@@ -218,12 +234,12 @@ module _ (options : List Pair) where
         let whole : Definition = built named.0 starts.0 actions.0 keep.0 in
         subst IsBounded {x = whole} (same_Ok whole d given.2)
         (record {
-          off = fit.off;
+          off = off.0;
           few_hosts = hosts.0.few;
           hosts = hosts.0.each;
           small_map = hosts.1.few;
           map = hosts.1.each;
-          argument = carrier_is options description.target formed.1 fit.target;
+          argument = carrier_is options description.target formed.1 told.1;
           cap = start.cap;
           priority = start.priority;
           base = start.base;
@@ -240,6 +256,6 @@ module _ (options : List Pair) where
 
 -- an answer that gives a definition gives a bounded one
 pub IfOk-bounded : (options : List Pair) (description : Description) (answer : Result Definition DefineFault)
-    → Gives answer (define options description) → IsFitDescription description → IfOk answer IsBounded
+    → Gives answer (define options description) → is_described description ≡ true → IfOk answer IsBounded
 IfOk-bounded options description (Ok d) h fit = bounded options description fit d h
 IfOk-bounded options description (Err fault) h fit = tt

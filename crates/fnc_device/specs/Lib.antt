@@ -5,4 +5,3 @@ pub mod Times
 pub mod Schedules
 pub mod Allowances
 pub mod Definitions
-pub mod Bounds

@@ -1,9 +1,9 @@
 // What the options of a device define.
 
-ghost use Rattle.std.specs.Prelude.{◌≡◌, IfOk};
+ghost use Rattle.std.specs.Prelude.{◌≡◌, IfOk, IsTrue};
 ghost use Rattle.fnc_journal.specs.Bounds.{IsBounded};
+ghost use Rattle.fnc_journal.specs.EntryBounds.{is_described};
 ghost use Rattle.fnc_device.specs.Definitions.{carries_port, is_missing, all_given, define};
-ghost use Rattle.fnc_device.specs.Bounds.{IsFitDescription};
 ghost use Rattle.fnc_device.specs.Steps.{Gives};
 
 use crate::allowance::read_allowances;
@@ -27,7 +27,7 @@ pub fn define(
     description: &Description,
 ) -> Result<Definition, DefineFault>
     ensures value { Gives result (define options.now description.now) }
-    ensures bounded { IsFitDescription description.now → IfOk result IsBounded }
+    ensures bounded { IsTrue (is_described description.now) → IfOk result IsBounded }
 {
     read_definition(alloc, options.as_slice(), description)
 }

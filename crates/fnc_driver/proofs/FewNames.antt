@@ -8,7 +8,7 @@ use Rattle.fnc_journal.specs.declared.limits.TheConstants.{MOST_DEVICES}
 use Rattle.fnc_journal.specs.History.{History}
 use Rattle.fnc_journal.specs.Found.{devices, is_device}
 use Rattle.fnc_journal.specs.Lawful.{in_order}
-use Rattle.fnc_core.specs.Known.{LeavesFewNames}
+use Rattle.fnc_journal.specs.Known.{LeavesFewNames}
 use Rattle.fnc_core.proofs.KnownFew.{few-ever}
 
 -- what holds where a test passes

@@ -6,7 +6,7 @@ ghost use Rattle.std.specs.Bool.{OnTrue};
 ghost use Rattle.fnc_journal.specs.Lawful.{in_order};
 ghost use Rattle.fnc_core.specs.Between.{IsBoundedEvent};
 ghost use Rattle.fnc_core.specs.Cored.{Sound, event_of};
-ghost use Rattle.fnc_core.specs.Known.{LeavesFewNames};
+ghost use Rattle.fnc_journal.specs.Known.{LeavesFewNames};
 ghost use Rattle.fnc_driver.specs.Askable.{IsAskable};
 
 use crate::plans::Written;

@@ -1,5 +1,22 @@
 -- A text may be cut before and after a separator.
-use Rattle.std.proofs.Common.{◌≡◌, ℕ, zero, suc, ◌+◌, ◌<◌, ◌≤◌, Bool, true, List, length, get_or, drop, ⊎_elim, arith, subst}
+use Rattle.std.proofs.Common.{
+  ◌≡◌,
+  ℕ,
+  zero,
+  suc,
+  ◌+◌,
+  ◌<◌,
+  ◌≤◌,
+  Bool,
+  true,
+  List,
+  length,
+  get_or,
+  drop,
+  ⊎_elim,
+  arith,
+  subst,
+}
 use Rattle.std.specs.Prelude.{not}
 use Rattle.std.specs.List.{prefix_len, position_or_len}
 use Rattle.std.specs.Str.{IsUtf8, IsCharBoundary}
@@ -10,7 +27,12 @@ use Rattle.fnc_hosts.specs.declared.entry.Form.{Form}
 use Rattle.fnc_hosts.specs.Entries.{separates}
 use Rattle.std.proofs.lemmas.List.{get_or-drop, length-drop}
 use Rattle.std.proofs.lemmas.List.Sums.{passes_at_first, prefix_len_passes, prefix_len-le-length}
-use Rattle.std.proofs.lemmas.Str.{IsCharBoundary-start, IsCharBoundary-end, IsCharBoundary-before_ascii, IsCharBoundary-after_ascii}
+use Rattle.std.proofs.lemmas.Str.{
+  IsCharBoundary-start,
+  IsCharBoundary-end,
+  IsCharBoundary-before_ascii,
+  IsCharBoundary-after_ascii,
+}
 
 module _ (separator : ℕ → Bool) (ascii : (b : ℕ) → separator b ≡ true → b < 128) (text : List ℕ)
     (utf8 : IsUtf8 text) where

@@ -1,5 +1,5 @@
 -- Proved here: what the definitions say of one more entry of a journal, the laws of lawful journals (runs, requests,
--- levels, slots), and that the index answers as its searches.
+-- levels, slots), that the index answers as its searches, and that the bounds of a definition are said in two ways.
 pub mod Finds
 pub mod SettledLanes
 pub mod LeastRegistrations
@@ -26,3 +26,5 @@ pub mod LawfulSteps
 pub mod DrivenSteps
 pub mod Faults
 pub mod Separators
+pub mod DefinitionBounds
+pub mod RequestTargets

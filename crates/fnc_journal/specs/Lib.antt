@@ -4,11 +4,14 @@ pub mod Same
 pub mod Exits
 pub mod Found
 pub mod Device
+pub mod Names
 pub mod Bounds
+pub mod EntryBounds
 pub mod Links
 pub mod Table
 pub mod Registered
 pub mod Heads
+pub mod Known
 pub mod Levels
 pub mod Kept
 pub mod Plan

@@ -5,7 +5,7 @@ use Rattle.std.proofs.lemmas.Bool.{false≢true}
 use Rattle.std.proofs.lemmas.Slice.Eq.{bytes_eq-Decides}
 use Rattle.fnc_journal.specs.declared.entry.Entry.{Entry}
 use Rattle.fnc_journal_reader.specs.declared.fault.EntryFault.{EntryFault}
-use Rattle.fnc_journal_reader.specs.Within.{is_within}
+use Rattle.fnc_journal.specs.EntryBounds.{is_within}
 use Rattle.fnc_journal_reader.specs.Cuts.{words}
 use Rattle.fnc_journal_reader.specs.Entries.{entry_of}
 use Rattle.fnc_journal_reader.specs.Reads.{Fails}

@@ -19,9 +19,9 @@ use Rattle.fnc_journal.specs.declared.event.Event.{Event}
 use Rattle.fnc_journal.specs.declared.event.Registered.{Registered}
 use Rattle.fnc_journal.specs.declared.entry.LevelTarget.{LevelTarget}
 use Rattle.fnc_journal.specs.Line.{escaped}
-use Rattle.fnc_text.specs.Names.{is_name}
+use Rattle.fnc_journal.specs.Names.{is_name}
 use Rattle.fnc_journal.specs.Bounds as Bounds
-use Rattle.fnc_journal_reader.specs.Within as Within
+use Rattle.fnc_journal.specs.EntryBounds as EntryBounds
 use Rattle.fnc_journal_reader.specs.Cuts.{nth, words}
 use Rattle.fnc_journal_reader.specs.Entries.{entry_of, event_of, definition_of}
 use Rattle.fnc_journal_text.specs.Spelled as Spelled
@@ -67,7 +67,7 @@ u8-part n h = number-part 32 n refl (omega (arith, h))
 name-part : (name : List ℕ) → is_name name ≡ true → Typed.are_characters name ≡ true → is_part 32 (escaped name) ≡ true
 name-part name b t = text-part 32 name refl (name-has name b) t
 
-target-has : (t : LevelTarget) → Within.is_target t ≡ true → has_byte (Spelled.target_text t) ≡ true
+target-has : (t : LevelTarget) → EntryBounds.is_target t ≡ true → has_byte (Spelled.target_text t) ≡ true
 target-has (LevelTarget.Name name) b = name-has name b
 target-has (LevelTarget.Pattern pattern) b =
     some-has pattern (and_parts (nat_lt 0 (length pattern)) (nat_le (length pattern) LONGEST_NAME) b).0
@@ -76,11 +76,11 @@ target-characters : (t : LevelTarget) → Typed.is_target t ≡ true → Typed.a
 target-characters (LevelTarget.Name name) t = t
 target-characters (LevelTarget.Pattern pattern) t = t
 
-targeted-part : (t : LevelTarget) → Within.is_target t ≡ true → Typed.is_target t ≡ true →
+targeted-part : (t : LevelTarget) → EntryBounds.is_target t ≡ true → Typed.is_target t ≡ true →
     is_part 32 (escaped (Spelled.target_text t)) ≡ true
 targeted-part t b k = text-part 32 (Spelled.target_text t) refl (target-has t b) (target-characters t k)
 
-index-fits : (index : ℕ) → Within.is_index index ≡ true → index < 2 ^ 8
+index-fits : (index : ℕ) → EntryBounds.is_index index ≡ true → index < 2 ^ 8
 index-fits index b =
     let most = MOST_LEVELS_OF_TARGET in
     let small : index ≤ 9 = leb-true index most (and_parts (nat_lt 0 index) (nat_le index most) b).1 in
@@ -91,7 +91,7 @@ record AreNodes (d : Definition) : Type 0 where
   hosts : list_all Bounds.is_host d.hosts ≡ true
   argument : Bounds.is_carrier d.argument ≡ true
 
-are_nodes : (d : Definition) → Within.are_nodes d ≡ true → AreNodes d
+are_nodes : (d : Definition) → EntryBounds.are_nodes d ≡ true → AreNodes d
 are_nodes d b =
     let five = and_parts _ (Bounds.is_carrier d.argument) b in
     let four = and_parts _ (list_all Bounds.is_host_pair d.map) five.0 in
@@ -106,7 +106,7 @@ record AreLimits (d : Definition) : Type 0 where
   max : Bounds.is_time d.max ≡ true
   keep : Bounds.is_time d.keep ≡ true
 
-are_limits : (d : Definition) → Within.are_limits d ≡ true → AreLimits d
+are_limits : (d : Definition) → EntryBounds.are_limits d ≡ true → AreLimits d
 are_limits d b =
     let six = and_parts _ (list_all Bounds.is_own_option d.own) b in
     let five = and_parts _ (nat_le (length d.own) MOST_OPTIONS) six.0 in
@@ -123,7 +123,7 @@ record AreAllowed (d : Definition) : Type 0 where
   list : Bounds.is_allowed d.list ≡ true
   status : Bounds.is_allowed d.status ≡ true
 
-are_allowed : (d : Definition) → Within.are_allowed d ≡ true → AreAllowed d
+are_allowed : (d : Definition) → EntryBounds.are_allowed d ≡ true → AreAllowed d
 are_allowed d b =
     let four = and_parts _ (Bounds.is_allowed d.status) b in
     let three = and_parts _ (Bounds.is_allowed d.list) four.0 in
@@ -136,10 +136,10 @@ record AreBounds (d : Definition) : Type 0 where
   limits : AreLimits d
   allowed : AreAllowed d
 
-are_bounds : (d : Definition) → Within.is_bounded d ≡ true → AreBounds d
+are_bounds : (d : Definition) → EntryBounds.is_bounded d ≡ true → AreBounds d
 are_bounds d b =
-    let two = and_parts _ (Within.are_allowed d) b in
-    let one = and_parts (Within.are_nodes d) (Within.are_limits d) two.0 in
+    let two = and_parts _ (EntryBounds.are_allowed d) b in
+    let one = and_parts (EntryBounds.are_nodes d) (EntryBounds.are_limits d) two.0 in
     record { nodes = are_nodes d one.0; limits = are_limits d one.1; allowed = are_allowed d two.1 }
 
 actions-lacking : (a : Actions) → lacks 32 (Spelled.actions_text a) ≡ true
@@ -167,10 +167,10 @@ record IsBoundedDevice (r : Registration) : Type 0 where
   agent : is_name r.agent ≡ true
   definition : AreBounds r.definition
 
-is_bounded : (r : Registration) → Within.is_device r ≡ true → IsBoundedDevice r
+is_bounded : (r : Registration) → EntryBounds.is_device r ≡ true → IsBoundedDevice r
 is_bounded r b =
-    let two = and_parts _ (Within.is_bounded r.definition) b in
-    let one = and_parts (is_name r.name) (Within.is_agent_name r.agent) two.0 in
+    let two = and_parts _ (EntryBounds.is_bounded r.definition) b in
+    let one = and_parts (is_name r.name) (EntryBounds.is_agent_name r.agent) two.0 in
     let agent = and_parts (is_name r.agent) _ one.1 in
     record { name = one.0; agent = agent.0; definition = are_bounds r.definition two.1 }
 
@@ -236,7 +236,7 @@ record IsBack (m : List ℕ) (event : Event) : Type 0 where
   apart : AreApart (words_of event)
   read : event_of (nth (m ∷ words_of event) 1) (m ∷ words_of event) ≡ Ok event
 
-event-back : (m : List ℕ) (event : Event) → Typed.IsEvent event → Within.is_event event ≡ true → IsBack m event
+event-back : (m : List ℕ) (event : Event) → Typed.IsEvent event → EntryBounds.is_event event ≡ true → IsBack m event
 event-back m (Event.Device device) t b =
     let r = device.registration in
     let bounds = is_bounded r b in
@@ -257,7 +257,7 @@ event-back m (Event.Level level) t b =
     let four = and_parts _ (list_all is_name level.devices) b in
     let three = and_parts _ (nat_le (length level.devices) MOST_DEVICES_OF_LEVEL) four.0 in
     let two = and_parts _ (nat_lt 0 (length level.devices)) three.0 in
-    let one = and_parts (Within.is_index level.index) (Within.is_target level.target) two.0 in
+    let one = and_parts (EntryBounds.is_index level.index) (EntryBounds.is_target level.target) two.0 in
     let fits = index-fits level.index one.0 in
     record {
       apart =
@@ -272,7 +272,7 @@ event-back m (Event.Level level) t b =
           (step _ level.devices _ _ (names-back level.devices four.1 t.1) refl));
     }
 event-back m (Event.LevelGone level) t b =
-    let one = and_parts (Within.is_index level.index) (Within.is_target level.target) b in
+    let one = and_parts (EntryBounds.is_index level.index) (EntryBounds.is_target level.target) b in
     let fits = index-fits level.index one.0 in
     record {
       apart =
@@ -285,7 +285,7 @@ event-back m (Event.LevelGone level) t b =
     }
 event-back m (Event.Agent agent) t b =
     let d = agent.description in
-    let one = and_parts (Within.is_agent_name agent.name) (Within.is_described d) b in
+    let one = and_parts (EntryBounds.is_agent_name agent.name) (EntryBounds.is_described d) b in
     let carrier = (and_parts _ (Bounds.is_carrier d.target) one.1).1 in
     record {
       apart =
@@ -389,7 +389,7 @@ event-back m (Event.Reply reply) t b =
     }
 
 -- what the line of an entry is read as
-pub entry-back : (e : Entry) → Typed.IsTyped e → Within.is_within e ≡ true → entry_of (words (line_of e)) ≡ Ok e
+pub entry-back : (e : Entry) → Typed.IsTyped e → EntryBounds.is_within e ≡ true → entry_of (words (line_of e)) ≡ Ok e
 entry-back e t b =
     let back = event-back (decimal e.moment) e.event t.event b in
     let moment = number-part 32 e.moment refl t.moment in

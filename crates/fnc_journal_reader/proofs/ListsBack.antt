@@ -33,7 +33,7 @@ use Rattle.fnc_journal.specs.declared.definition.Delay.{Delay}
 use Rattle.fnc_journal.specs.declared.definition.Parameter.{Parameter}
 use Rattle.fnc_journal.specs.declared.names.Pair.{Pair}
 use Rattle.fnc_journal.specs.Line.{escaped}
-use Rattle.fnc_text.specs.Names.{is_name}
+use Rattle.fnc_journal.specs.Names.{is_name}
 use Rattle.fnc_journal.specs.Bounds as Bounds
 use Rattle.fnc_journal_reader.specs.Cuts.{front, after, parts}
 use Rattle.fnc_journal_reader.specs.Reads.{each}

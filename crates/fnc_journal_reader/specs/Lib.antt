@@ -1,4 +1,3 @@
-pub mod Within
 pub mod Typed
 pub mod Cuts
 pub mod Reads

@@ -2,9 +2,9 @@
 
 ghost use Rattle.std.specs.Prelude.{◌≡◌, ◌==◌, ◌-◌, nat_eq, codes};
 ghost use Rattle.std.specs.List.{ends_with, list_all, list_any};
-ghost use Rattle.fnc_text.specs.Names as Names;
+ghost use Rattle.fnc_journal.specs.Names as Names;
 ghost use Rattle.fnc_journal.specs.Bounds as Bounds;
-ghost use Rattle.fnc_journal_reader.specs.Within as Within;
+ghost use Rattle.fnc_journal.specs.EntryBounds as EntryBounds;
 
 use fnc_journal::limits::{
     DAY, GREATEST_PRIORITY, LONGEST_NAME, LONGEST_VALUE, MOST_DEVICES_OF_LEVEL, MOST_HOSTS,
@@ -17,9 +17,9 @@ use fnc_journal::{
 };
 use fnc_text::is_name;
 
-/// Whether an entry is within the bounds.
-pub(crate) fn is_within(entry: &Entry) -> bool
-    ensures { result ≡ Within.is_within entry.now }
+/// Whether an entry is within the bounds of a journal's text: only such an entry is read.
+pub fn is_within(entry: &Entry) -> bool
+    ensures { result ≡ EntryBounds.is_within entry.now }
 {
     match &entry.event {
         Event::Device(device) => is_device(device.registration.get()),
@@ -193,7 +193,7 @@ fn are_names(names: &[Text]) -> bool
 }
 
 fn are_nodes(definition: &Definition) -> bool
-    ensures { result ≡ Within.are_nodes definition.now }
+    ensures { result ≡ EntryBounds.are_nodes definition.now }
 {
     let hosts = definition.hosts.as_slice();
     let map = definition.map.as_slice();
@@ -206,7 +206,7 @@ fn are_nodes(definition: &Definition) -> bool
 }
 
 fn are_limits(definition: &Definition) -> bool
-    ensures { result ≡ Within.are_limits definition.now }
+    ensures { result ≡ EntryBounds.are_limits definition.now }
 {
     let own = definition.own.as_slice();
     is_cap(definition.cap)
@@ -219,7 +219,7 @@ fn are_limits(definition: &Definition) -> bool
 }
 
 fn are_allowed(definition: &Definition) -> bool
-    ensures { result ≡ Within.are_allowed definition.now }
+    ensures { result ≡ EntryBounds.are_allowed definition.now }
 {
     is_allowed(&definition.on)
         && is_allowed(&definition.off)
@@ -229,7 +229,7 @@ fn are_allowed(definition: &Definition) -> bool
 }
 
 fn is_device(registration: &Registration) -> bool
-    ensures { result ≡ Within.is_device registration.now }
+    ensures { result ≡ EntryBounds.is_device registration.now }
 {
     is_name(registration.name.as_str())
         && is_agent_name(registration.agent.as_str())
@@ -237,7 +237,7 @@ fn is_device(registration: &Registration) -> bool
 }
 
 fn is_bounded(definition: &Definition) -> bool
-    ensures { result ≡ Within.is_bounded definition.now }
+    ensures { result ≡ EntryBounds.is_bounded definition.now }
 {
     are_nodes(definition) && are_limits(definition) && are_allowed(definition)
 }
@@ -249,25 +249,25 @@ fn has_equals(text: &[u8]) -> bool
 }
 
 fn is_agent_name(name: &str) -> bool
-    ensures { result ≡ Within.is_agent_name name.now }
+    ensures { result ≡ EntryBounds.is_agent_name name.now }
 {
     is_name(name) && !has_equals(name.as_bytes())
 }
 
 fn is_parameter(parameter: &Parameter) -> bool
-    ensures { result ≡ Within.is_parameter parameter.now }
+    ensures { result ≡ EntryBounds.is_parameter parameter.now }
 {
     is_option_name(parameter.name.as_str())
 }
 
 fn are_parameters(parameters: &[Parameter]) -> bool
-    ensures { result ≡ list_all Within.is_parameter parameters.now }
+    ensures { result ≡ list_all EntryBounds.is_parameter parameters.now }
 {
     parameters.iter().all(|p| is_parameter(p))
 }
 
 fn is_described(description: &Description) -> bool
-    ensures { result ≡ Within.is_described description.now }
+    ensures { result ≡ EntryBounds.is_described description.now }
 {
     let parameters = description.parameters.as_slice();
     description.actions.off
@@ -277,7 +277,7 @@ fn is_described(description: &Description) -> bool
 }
 
 fn is_target(target: &LevelTarget) -> bool
-    ensures { result ≡ Within.is_target target.now }
+    ensures { result ≡ EntryBounds.is_target target.now }
 {
     match target {
         LevelTarget::Name(name) => is_name(name.as_str()),
@@ -288,13 +288,13 @@ fn is_target(target: &LevelTarget) -> bool
 }
 
 fn is_index(index: u8) -> bool
-    ensures { result ≡ Within.is_index index }
+    ensures { result ≡ EntryBounds.is_index index }
 {
     index > 0 && index <= MOST_LEVELS_OF_TARGET
 }
 
 fn is_level(level: &LevelSet) -> bool
-    ensures { result ≡ Within.is_level level.now }
+    ensures { result ≡ EntryBounds.is_level level.now }
 {
     let devices = level.devices.as_slice();
     is_index(level.index)
@@ -305,25 +305,25 @@ fn is_level(level: &LevelSet) -> bool
 }
 
 fn is_level_gone(level: &LevelCleared) -> bool
-    ensures { result ≡ Within.is_level_gone level.now }
+    ensures { result ≡ EntryBounds.is_level_gone level.now }
 {
     is_index(level.index) && is_target(&level.target)
 }
 
 fn is_agent(agent: &Described) -> bool
-    ensures { result ≡ Within.is_agent agent.now }
+    ensures { result ≡ EntryBounds.is_agent agent.now }
 {
     is_agent_name(agent.name.as_str()) && is_described(agent.description.get())
 }
 
 fn is_request(request: &Request) -> bool
-    ensures { result ≡ Within.is_request request.now }
+    ensures { result ≡ EntryBounds.is_request request.now }
 {
     is_name(request.client.as_str()) && is_name(request.target.as_str())
 }
 
 fn is_confirmation(confirmation: &Confirmation) -> bool
-    ensures { result ≡ Within.is_confirmation confirmation.now }
+    ensures { result ≡ EntryBounds.is_confirmation confirmation.now }
 {
     is_name(confirmation.client.as_str()) && is_name(confirmation.target.as_str())
 }

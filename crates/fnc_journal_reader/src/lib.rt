@@ -10,5 +10,6 @@ mod read;
 mod read_lists;
 mod values;
 
+pub use bounds::is_within;
 pub use fault::EntryFault;
 pub use read::{read_entry, spelled_once};

@@ -2,7 +2,7 @@
 
 ghost use Rattle.std.specs.Prelude.{◌≡◌, IfOk, IsTrue, Ok};
 ghost use Rattle.fnc_journal.specs.declared.entry.Entry.{Entry};
-ghost use Rattle.fnc_journal_reader.specs.Within.{is_within};
+ghost use Rattle.fnc_journal.specs.EntryBounds.{is_within};
 ghost use Rattle.fnc_journal_reader.specs.Cuts.{words};
 ghost use Rattle.fnc_journal_reader.specs.Entries as Entries;
 ghost use Rattle.fnc_journal_reader.specs.Reads.{Gives};

@@ -48,7 +48,7 @@ module _ (target : List ℕ) (coin : ℕ) where
       query-left c.query (filter_map (λ (c : QueriedDevice). c.query) cs)
       (tries_of (filter_map (λ (c : QueriedDevice). c.query) cs)) (omega arith) in
       let acted : tries_of (slots_of (ranked_from kind k (c ∷ cs))) ≡ tries (act_task false kind 0 0 c.device) +
-      tries_of (slots_of (ranked_from kind (k + 1) cs)) = ranked-tries target coin kind k c cs in
+      tries_of (slots_of (ranked_from kind (k + 1) cs)) = ranked-tries kind k c cs in
       let act : left_of (fresh_slot target coin (act_task false kind 0 0 c.device)) ≤ tries
       (act_task false kind 0 0 c.device) = slot-left (act_task false kind 0 0 c.device) in
       let rest : left_levels (map (fresh_candidate kind target coin) cs) ≤ tries_of

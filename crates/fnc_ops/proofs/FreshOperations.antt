@@ -1,33 +1,8 @@
 -- The record of an operation that begins is that of the operation, of which nothing was started yet.
-use Rattle.std.proofs.Common.{
-  ℕ,
-  List,
-  [],
-  ◌∷◌,
-  ◌++◌,
-  Bool,
-  true,
-  false,
-  ◌≡◌,
-  ◌≤◌,
-  ◌+◌,
-  ◌-◌,
-  ◌*◌,
-  refl,
-  ap,
-  ap₂,
-  sym,
-  ◌∙◌,
-  subst,
-  cond,
-  arith,
-  length,
-  map,
-  ◌||◌,
-}
+use Rattle.std.proofs.Common.{ℕ, List, [], ◌∷◌, Bool, true, false, ◌≡◌, ◌≤◌, ◌+◌, ◌-◌, refl, ap, sym, ◌∙◌, subst, cond, arith, length, map, ◌||◌}
 use Rattle.std.specs.Prelude.{filter_map}
 use Rattle.std.specs.List.{AllZip, list_all}
-use Rattle.fnc_journal.specs.declared.limits.TheConstants.{MOST_DEVICES, MOST_LEVELS_OF_TARGET, MOST_TRIES}
+use Rattle.fnc_journal.specs.declared.limits.TheConstants.{MOST_DEVICES}
 use Rattle.fnc_journal.specs.declared.entry.Scope.{Scope}
 use Rattle.fnc_journal.specs.declared.plan.Candidate.{Candidate}
 use Rattle.fnc_journal.specs.declared.plan.Plan.{Plan}
@@ -44,7 +19,6 @@ use Rattle.fnc_journal.specs.Slots.{
   rank_of,
   slots_of,
   all_slots,
-  Task,
 }
 use Rattle.fnc_journal.specs.Standing.{queries_concluded}
 use Rattle.fnc_journal.specs.Owed.{untried, tries_of}
@@ -69,23 +43,15 @@ use Rattle.fnc_ops.specs.FreshRecords.{
   unseen_operation,
   fresh_operation,
   begun_by,
-  all_tries_after,
 }
-use Rattle.fnc_ops.specs.Stands.{AreBounded, AreFewDevices}
+use Rattle.fnc_ops.specs.Stands.{AreBounded}
 use Rattle.fnc_records.proofs.Ranking.{ranks_by}
 use Rattle.fnc_records.proofs.OperationSteps.{rank_by, ranked-once}
 use Rattle.fnc_ops.proofs.StandsExits.{untried-ranked}
 use Rattle.fnc_ops.proofs.FreshFacts.{levels-fresh, candidates-fresh, queries-distinct, queried-few}
 use Rattle.fnc_records.proofs.LeftTries.{left-ranked}
 use Rattle.fnc_ops.proofs.FreshLeft.{levels-left, candidates-left}
-use Rattle.fnc_ops.proofs.FreshTries.{
-  levels-tried,
-  candidates-tried,
-  levels-few,
-  queries-few,
-  acts-few,
-  tries_of-append,
-}
+use Rattle.fnc_ops.proofs.FreshTries.{tries_of-append}
 
 -- the levels of a plan are all tried, and ask nothing
 levels-asked : (target : List ℕ) (coin : ℕ) (ls : List Rank) → kept_queries (map (fresh_level target coin) ls) ≡ []
@@ -107,23 +73,21 @@ pub planned-bare : (w : Wanted) (h : History) (p : Plan) → p ≡ plan w h → 
 planned-bare w h p e levelled = ap (λ (q : Plan). q.candidates) e ∙ bare-by w.scope _
     (ap (λ (q : Plan). is_levelled q.scope) (sym e) ∙ levelled)
 
-none_begun : (n : ℕ) → n - 0 ≡ 0 + n
+none_begun : (n : ℕ) → n ≡ n - 0
 none_begun n = omega arith
 
-none_more : (n k : ℕ) → 0 + n + k ≡ n + k - 0
-none_more n k = omega arith
-
-module _ (r : Request) (p : Plan) (h : History) (bounded : AreBounded h) (bare : is_levelled p.scope ≡ true →
-    p.candidates ≡ []) (apart : AreDistinct (slots_of (map (rank_of r.kind h) p.levels)))
+module _ (r : Request) (p : Plan) (h : History) (tries : ℕ) (bounded : AreBounded h)
+    (bare : is_levelled p.scope ≡ true → p.candidates ≡ [])
+    (apart : AreDistinct (slots_of (map (rank_of r.kind h) p.levels)))
     (few : length p.candidates ≤ MOST_DEVICES) where
   abbrev o : Operation
   o = begun_by r p h
 
   -- with candidates
-  asked-fresh : is_levelled p.scope ≡ false → IsOperation r.moment [] (fresh_operation o) o
+  asked-fresh : is_levelled p.scope ≡ false → IsOperation r.moment [] (fresh_operation tries o) o
   asked-fresh e =
-      ranked-once o r.moment [] (unseen_operation o) tt tt (queries-distinct 0 h p.candidates) apart refl refl refl
-      refl refl e (record {
+      ranked-once o r.moment [] (unseen_operation tries o) tt tt (queries-distinct 0 h p.candidates) apart
+      refl refl refl refl refl e (record {
         unlevelled = e;
         few = (let k : length (queried_from 0 h p.candidates) ≤ length p.candidates = queried-few 0 h p.candidates in
             omega (arith, k, few));
@@ -138,7 +102,7 @@ module _ (r : Request) (p : Plan) (h : History) (bounded : AreBounded h) (bare :
       (bare e)
 
   -- with levels
-  levelled-fresh : is_levelled p.scope ≡ true → IsOperation r.moment [] (unseen_operation o) o
+  levelled-fresh : is_levelled p.scope ≡ true → IsOperation r.moment [] (unseen_operation tries o) o
   levelled-fresh e = record {
     req = refl;
     kind = refl;
@@ -165,60 +129,26 @@ module _ (r : Request) (p : Plan) (h : History) (bounded : AreBounded h) (bare :
       levels = ap (λ b. cond b (map (fresh_level r.target r.coin) o.levels)
           (map (fresh_candidate r.kind r.target r.coin) o.candidates)) e
 
-  pub operation-fresh : IsOperation r.moment [] (fresh_operation o) o
+  pub operation-fresh : IsOperation r.moment [] (fresh_operation tries o) o
   operation-fresh = go (is_levelled p.scope) refl
     where
-      go : (b : Bool) → is_levelled p.scope ≡ b → IsOperation r.moment [] (fresh_operation o) o
+      go : (b : Bool) → is_levelled p.scope ≡ b → IsOperation r.moment [] (fresh_operation tries o) o
       go true e = subst (λ (k : KeptOperation). IsOperation r.moment [] k o)
-          (sym (rank_by r.moment (unseen_operation o) true (list_all (is_queried r.moment) (fresh_levels o)) e refl))
+          (sym (rank_by r.moment (unseen_operation tries o) true (list_all (is_queried r.moment) (fresh_levels o))
+          e refl))
           (levelled-fresh e)
       go false e = asked-fresh e
 
-  -- nothing of it was tried
-  pub untried-fresh : length p.levels ≤ MOST_LEVELS_OF_TARGET → AreFewDevices p.levels →
-      (fresh_operation o).untried ≡ untried o []
-  untried-fresh few_levels few_devices = untried-ranked r.moment (unseen_operation o) ∙ go (is_levelled p.scope) refl
-    where
-      levels : is_levelled p.scope ≡ true → all_tries_after 0 (fresh_levels o) ≡ all_tries_after 0
-          (map (fresh_level r.target r.coin) o.levels)
-      levels e = ap (λ b. all_tries_after 0 (cond b (map (fresh_level r.target r.coin) o.levels)
-          (map (fresh_candidate r.kind r.target r.coin) o.candidates))) e
-
-      candidates : is_levelled p.scope ≡ false → all_tries_after 0 (fresh_levels o) ≡ all_tries_after 0
-          (map (fresh_candidate r.kind r.target r.coin) o.candidates)
-      candidates e = ap (λ b. all_tries_after 0 (cond b (map (fresh_level r.target r.coin) o.levels)
-          (map (fresh_candidate r.kind r.target r.coin) o.candidates))) e
-
-      go : (b : Bool) → is_levelled p.scope ≡ b → all_tries_after 0 (fresh_levels o) ≡ untried o []
-      go true e =
-          let most : tries_of (slots_of o.levels) ≤ 256 * length p.levels =
-          levels-few r.kind h bounded p.levels few_devices in
-          let counted : all_tries_after 0 (map (fresh_level r.target r.coin) o.levels) ≡ 0 + tries_of
-          (slots_of o.levels) = levels-tried r.target r.coin 0 o.levels (omega (arith, most, few_levels)) in
-          let slots : tries_of (all_slots o) ≡ tries_of (slots_of o.levels) =
-          ap₂ (λ (qs : List Task) (b : Bool). tries_of
-          (qs ++ slots_of (cond b o.levels (ranked_from r.kind 1 o.candidates)))) (none-asked e) e in
-          levels e ∙ counted ∙ sym (none_begun (tries_of (slots_of o.levels))) ∙ ap (λ n. n - 0) (sym slots)
-      go false e =
-          let asked : tries_of (queries o) ≤ MOST_TRIES * length p.candidates =
-          queries-few r.kind h bounded 0 p.candidates in
-          let acted : tries_of (slots_of (ranked_from r.kind 1 o.candidates)) ≤ MOST_TRIES * length p.candidates =
-          acts-few r.kind h bounded 1 0 p.candidates in
-          let counted : all_tries_after 0 (map (fresh_candidate r.kind r.target r.coin) o.candidates) ≡ 0 + tries_of
-          (queries o) + tries_of (slots_of (ranked_from r.kind 1 o.candidates)) =
-          candidates-tried r.target r.coin r.kind 0 1 o.candidates (omega (arith, asked, acted, few)) in
-          let slots : tries_of (all_slots o) ≡ tries_of (queries o) + tries_of
-          (slots_of (ranked_from r.kind 1 o.candidates)) =
-          ap (λ (b : Bool). tries_of (queries o ++ slots_of (cond b o.levels (ranked_from r.kind 1 o.candidates)))) e
-          ∙ tries_of-append (queries o) (slots_of (ranked_from r.kind 1 o.candidates)) in
-          candidates e ∙ counted ∙ none_more (tries_of (queries o))
-          (tries_of (slots_of (ranked_from r.kind 1 o.candidates))) ∙ ap (λ n. n - 0) (sym slots)
+  -- where these are the allowed tries of all its slots, none of which was made
+  pub untried-fresh : tries ≡ tries_of (all_slots o) → (fresh_operation tries o).untried ≡ untried o []
+  untried-fresh counted =
+      untried-ranked r.moment (unseen_operation tries o) ∙ counted ∙ none_begun (tries_of (all_slots o))
 
   -- and it has no more tries left than all its slots are allowed
-  pub left-fresh : left_levels (fresh_operation o).levels ≤ tries_of (all_slots o)
+  pub left-fresh : left_levels (fresh_operation tries o).levels ≤ tries_of (all_slots o)
   left-fresh =
-      let same : left_levels (fresh_operation o).levels ≡ left_levels (fresh_levels o) =
-      left-ranked r.moment (unseen_operation o) in
+      let same : left_levels (fresh_operation tries o).levels ≡ left_levels (fresh_levels o) =
+      left-ranked r.moment (unseen_operation tries o) in
       let all : tries_of (all_slots o) ≡ tries_of (queries o) + tries_of
       (slots_of (cond (is_levelled p.scope) o.levels (ranked_from r.kind 1 o.candidates))) =
       tries_of-append (queries o)

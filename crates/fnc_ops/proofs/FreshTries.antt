@@ -1,4 +1,4 @@
--- The tries that a record counts when its operation begins are the allowed tries of all slots.
+-- The allowed tries of the slots that a plan gives an operation, which are few.
 use Rattle.std.proofs.Common.{
   ℕ,
   List,
@@ -10,13 +10,9 @@ use Rattle.std.proofs.Common.{
   false,
   ◌≡◌,
   ◌≤◌,
-  ◌<◌,
   ◌+◌,
   ◌*◌,
-  ◌^◌,
   refl,
-  ap,
-  ◌∙◌,
   Option,
   Some,
   None,
@@ -36,7 +32,6 @@ use Rattle.fnc_journal.specs.History.{History}
 use Rattle.fnc_journal.specs.Device.{Device}
 use Rattle.fnc_journal.specs.Slots.{
   Task,
-  Rank,
   QueriedDevice,
   tries,
   task,
@@ -54,19 +49,8 @@ use Rattle.fnc_journal.specs.Slots.{
   slots_of,
 }
 use Rattle.fnc_journal.specs.Owed.{tries_of}
-use Rattle.fnc_records.specs.SlotRecords.{capped}
-use Rattle.fnc_ops.specs.FreshRecords.{
-  fresh_slot,
-  fresh_level,
-  fresh_candidate,
-  tries_after,
-  query_tries_after,
-  level_tries_after,
-  all_tries_after,
-}
 use Rattle.fnc_ops.specs.Stands.{AreBounded, AreFewDevices}
 use Rattle.fnc_records.proofs.LevelSteps.{ForSome}
-use Rattle.fnc_records.proofs.SlotSteps.{capped_32}
 use Rattle.fnc_ops.proofs.FreshDevices.{IsBoundedDevice, bounded-device, bounded-devices, devices-few}
 use Rattle.fnc_ops.proofs.FreshSlots.{allowed-few}
 use Rattle.fnc_records.proofs.Ranking.{one_device}
@@ -76,93 +60,11 @@ tries_of-append [] ys = let e : tries_of ys ≡ 0 + tries_of ys = omega arith in
 tries_of-append (t ∷ ts) ys = let ih : tries_of (ts ++ ys) ≡ tries_of ts + tries_of ys = tries_of-append ts ys in
     omega (arith, ih)
 
--- what the records count is not cut where all of it fits
-module _ (target : List ℕ) (coin : ℕ) where
-  slots-tried : (n : ℕ) (ts : List Task) → n + tries_of ts < 2 ^ 32 → tries_after n (map (fresh_slot target coin) ts) ≡
-      n + tries_of ts
-  slots-tried n [] k = omega arith
-  slots-tried n (t ∷ ts) k =
-      let fits : n + (tries t + tries_of ts) < 2 ^ 32 = k in
-      let here : capped 32 (n + tries t) ≡ n + tries t = capped_32 (n + tries t) (omega (arith, fits)) in
-      let rest : tries_after (n + tries t) (map (fresh_slot target coin) ts) ≡ n + tries t + tries_of ts =
-      slots-tried (n + tries t) ts (omega (arith, fits)) in
-      ap (λ m. tries_after m (map (fresh_slot target coin) ts)) here ∙ rest ∙ omega arith
-
-  level-tried : (n : ℕ) (l : Rank) → n + tries_of (l.firsts ++ l.ons) < 2 ^ 32 →
-      level_tries_after n (fresh_level target coin l) ≡ n + tries_of (l.firsts ++ l.ons)
-  level-tried n l k =
-      let both : tries_of (l.firsts ++ l.ons) ≡ tries_of l.firsts + tries_of l.ons = tries_of-append l.firsts l.ons in
-      let first : tries_after n (map (fresh_slot target coin) l.firsts) ≡ n + tries_of l.firsts =
-      slots-tried n l.firsts (omega (arith, k, both)) in
-      let rest : tries_after (n + tries_of l.firsts) (map (fresh_slot target coin) l.ons) ≡ n + tries_of l.firsts +
-      tries_of l.ons = slots-tried (n + tries_of l.firsts) l.ons (omega (arith, k, both)) in
-      ap (λ m. tries_after m (map (fresh_slot target coin) l.ons)) first ∙ rest ∙ omega (arith, both)
-
-  pub levels-tried : (n : ℕ) (ls : List Rank) → n + tries_of (slots_of ls) < 2 ^ 32 →
-      all_tries_after n (map (fresh_level target coin) ls) ≡ n + tries_of (slots_of ls)
-  levels-tried n [] k = omega arith
-  levels-tried n (l ∷ ls) k =
-      let both : tries_of (slots_of (l ∷ ls)) ≡ tries_of (l.firsts ++ l.ons) + tries_of (slots_of ls) =
-      tries_of-append (l.firsts ++ l.ons) (slots_of ls) in
-      let here : level_tries_after n (fresh_level target coin l) ≡ n + tries_of (l.firsts ++ l.ons) =
-      level-tried n l (omega (arith, k, both)) in
-      let rest : all_tries_after (n + tries_of (l.firsts ++ l.ons)) (map (fresh_level target coin) ls) ≡ n + tries_of
-      (l.firsts ++ l.ons) + tries_of (slots_of ls) =
-      levels-tried (n + tries_of (l.firsts ++ l.ons)) ls (omega (arith, k, both)) in
-      ap (λ m. all_tries_after m (map (fresh_level target coin) ls)) here ∙ rest ∙ omega (arith, both)
-
-  -- the tries of a query that may not be there
-  abbrev tries_asked : Option Task → ℕ
-  tries_asked None = 0
-  tries_asked (Some t) = tries t
-
-  asked-of : (x : Option Task) (ts : List Task) → tries_of (cons_option x ts) ≡ tries_asked x + tries_of ts
-  asked-of None ts = let e : tries_of ts ≡ 0 + tries_of ts = omega arith in e
-  asked-of (Some t) ts = refl
-
-  query-tried : (n : ℕ) (x : Option Task) → n + tries_asked x < 2 ^ 32 →
-      query_tries_after n (option_map (fresh_slot target coin) x) ≡ n + tries_asked x
-  query-tried n None k = omega arith
-  query-tried n (Some t) k = capped_32 (n + tries t) k
-
-  candidate-tried : (kind : Kind) (n : ℕ) (c : QueriedDevice) → n + tries_asked c.query + tries
-      (act_task false kind 0 0 c.device) < 2 ^ 32 →
-      level_tries_after n (fresh_candidate kind target coin c) ≡ n + tries_asked c.query + tries
-      (act_task false kind 0 0 c.device)
-  candidate-tried kind n c k =
-      let first : query_tries_after n (option_map (fresh_slot target coin) c.query) ≡ n + tries_asked c.query =
-      query-tried n c.query (omega (arith, k)) in
-      ap (λ m. capped 32 (m + tries (act_task false kind 0 0 c.device))) first
-      ∙ capped_32 (n + tries_asked c.query + tries (act_task false kind 0 0 c.device)) k
-
-  -- a candidate has one Act slot, whatever its level
-  pub ranked-tries : (kind : Kind) (k : ℕ) (c : QueriedDevice) (cs : List QueriedDevice) →
-      tries_of (slots_of (ranked_from kind k (c ∷ cs))) ≡ tries (act_task false kind 0 0 c.device) + tries_of
-      (slots_of (ranked_from kind (k + 1) cs))
-  ranked-tries kind k c cs = rw (one_device kind c.device) refl
-
-  pub candidates-tried : (kind : Kind) (n k : ℕ) (cs : List QueriedDevice) →
-      n + tries_of (filter_map (λ (c : QueriedDevice). c.query) cs) + tries_of (slots_of (ranked_from kind k cs)) < 2 ^
-      32 →
-      all_tries_after n (map (fresh_candidate kind target coin) cs) ≡ n + tries_of
-      (filter_map (λ (c : QueriedDevice). c.query) cs) + tries_of (slots_of (ranked_from kind k cs))
-  candidates-tried kind n k [] f = omega arith
-  candidates-tried kind n k (c ∷ cs) f =
-      let asked : tries_of (filter_map (λ (c : QueriedDevice). c.query) (c ∷ cs)) ≡ tries_asked c.query + tries_of
-      (filter_map (λ (c : QueriedDevice). c.query) cs) =
-      asked-of c.query (filter_map (λ (c : QueriedDevice). c.query) cs) in
-      let acted : tries_of (slots_of (ranked_from kind k (c ∷ cs))) ≡ tries (act_task false kind 0 0 c.device) +
-      tries_of (slots_of (ranked_from kind (k + 1) cs)) = ranked-tries kind k c cs in
-      let here : level_tries_after n (fresh_candidate kind target coin c) ≡ n + tries_asked c.query + tries
-      (act_task false kind 0 0 c.device) =
-      candidate-tried kind n c (omega (arith, f, asked, acted)) in
-      let rest : all_tries_after (n + tries_asked c.query + tries (act_task false kind 0 0 c.device))
-      (map (fresh_candidate kind target coin) cs)
-      ≡ n + tries_asked c.query + tries (act_task false kind 0 0 c.device) + tries_of
-      (filter_map (λ (c : QueriedDevice). c.query) cs) + tries_of (slots_of (ranked_from kind (k + 1) cs)) =
-      candidates-tried kind (n + tries_asked c.query + tries (act_task false kind 0 0 c.device)) (k + 1) cs
-      (omega (arith, f, asked, acted)) in
-      ap (λ m. all_tries_after m (map (fresh_candidate kind target coin) cs)) here ∙ rest ∙ omega (arith, asked, acted)
+-- a candidate has one Act slot, whatever its level
+pub ranked-tries : (kind : Kind) (k : ℕ) (c : QueriedDevice) (cs : List QueriedDevice) →
+    tries_of (slots_of (ranked_from kind k (c ∷ cs))) ≡ tries (act_task false kind 0 0 c.device) + tries_of
+    (slots_of (ranked_from kind (k + 1) cs))
+ranked-tries kind k c cs = rw (one_device kind c.device) refl
 
 -- each slot is allowed at most 16 tries
 task-tries : (t : Task) → IsBoundedDevice (record { reg = t.reg; definition = t.definition }) → tries t ≤ MOST_TRIES
@@ -261,7 +163,7 @@ module _ (kind : Kind) (h : History) (bounded : AreBounded h) where
           let one : tries_of (slots_of (ranked_from kind k (queried place c.query d ∷ queried_from (place + 1) h cs)))
           ≡ tries (act_task false kind 0 0 d) + tries_of
           (slots_of (ranked_from kind (k + 1) (queried_from (place + 1) h cs))) =
-          ranked-tries [] 0 kind k (queried place c.query d) (queried_from (place + 1) h cs) in
+          ranked-tries kind k (queried place c.query d) (queried_from (place + 1) h cs) in
           let here : tries (act_task false kind 0 0 d) ≤ MOST_TRIES = act-tries false kind 0 0 d b in
           let rest : tries_of (slots_of (ranked_from kind (k + 1) (queried_from (place + 1) h cs))) ≤ MOST_TRIES *
           length cs = ih (k + 1) in

@@ -228,7 +228,7 @@ module _ (kind : Kind) (h : History) (bounded : AreBounded h) where
   acted-next : (levelled : Bool) (k place : ℕ) (query : Option Kind) (d : Device) (cs : List QueriedDevice) →
       acted levelled k (queried place query d ∷ cs) ≡ act_tries levelled kind d.definition + acted levelled (k + 1) cs
   acted-next true k place query d cs = refl
-  acted-next false k place query d cs = ranked-tries [] 0 kind k (queried place query d) cs
+  acted-next false k place query d cs = ranked-tries kind k (queried place query d) cs
 
   candidates-total : (levelled : Bool) (place k : ℕ) (cs : List Candidate) → asked (queried_from place h cs) + acted
       levelled k (queried_from place h cs) < 2 ^ 32 →

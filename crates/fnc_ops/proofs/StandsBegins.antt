@@ -34,7 +34,7 @@ use Rattle.std.proofs.Common.{
 use Rattle.std.proofs.Math.Bool.{and-false}
 use Rattle.std.specs.Prelude.{find, option_and_then, OnOk, OnErr, Result, Ok, Err}
 use Rattle.std.specs.List.{AllZip, AllByRecursion}
-use Rattle.fnc_journal.specs.declared.limits.TheConstants.{MOST_DEVICES, MOST_LEVELS_OF_TARGET}
+use Rattle.fnc_journal.specs.declared.limits.TheConstants.{MOST_DEVICES}
 use Rattle.fnc_journal.specs.declared.event.Event.{Event}
 use Rattle.fnc_journal.specs.declared.plan.Plan.{Plan}
 use Rattle.fnc_journal.specs.declared.outcome.NoMemory.{NoMemory}
@@ -63,7 +63,6 @@ use Rattle.fnc_ops.specs.Stands.{
   Stands,
   StandsFor,
   AreBounded,
-  AreFewDevices,
   ask_entry,
   begun_request,
   numbers,
@@ -98,24 +97,24 @@ module _ (r : Begun) (p : Plan) (h : History) (client : List ℕ) (lawful : Lawf
   abbrev after : History
   after = ask_entry r.moment (begun_request r client p.scope) ∷ h
 
-  fresh-stands : length p.candidates ≤ MOST_DEVICES → length p.levels ≤ MOST_LEVELS_OF_TARGET →
-      AreFewDevices p.levels → Stands after (fresh_operation begun) begun
-  fresh-stands few few_levels few_devices =
+  fresh-stands : (tries : ℕ) → tries ≡ tries_of (all_slots begun) → length p.candidates ≤ MOST_DEVICES →
+      Stands after (fresh_operation tries begun) begun
+  fresh-stands tries counted few =
       let acts_none : acts r.req.0 h ≡ [] = unasked_idle h lawful r.req.0 (omega (arith, number)) in
       let bare = planned-bare (wanted_by r p.scope) h p planned in
       let apart = planned-distinct r.kind (wanted_by r p.scope) h p planned in
-      let untried_now : (fresh_operation begun).untried ≡ untried begun [] = untried-fresh r p h bounded bare apart few
-      few_levels few_devices in
-      let left : left_levels (fresh_operation begun).levels ≤ tries_of (all_slots begun) =
-      left-fresh r p h bounded bare apart few in
+      let untried_now : (fresh_operation tries begun).untried ≡ untried begun [] =
+      untried-fresh r p h tries bounded bare apart few counted in
+      let left : left_levels (fresh_operation tries begun).levels ≤ tries_of (all_slots begun) =
+      left-fresh r p h tries bounded bare apart few in
       record {
-        operation = subst (λ m. IsOperation m (acts r.req.0 h) (fresh_operation begun) begun)
-            (sym (moment-ranked r.moment (unseen_operation begun)))
-            (subst (λ (xs : List Act). IsOperation r.moment xs (fresh_operation begun) begun) (sym acts_none)
-            (operation-fresh r p h bounded bare apart few));
-        waiting_are = ap numbers (members-ranked r.moment (unseen_operation begun))
+        operation = subst (λ m. IsOperation m (acts r.req.0 h) (fresh_operation tries begun) begun)
+            (sym (moment-ranked r.moment (unseen_operation tries begun)))
+            (subst (λ (xs : List Act). IsOperation r.moment xs (fresh_operation tries begun) begun) (sym acts_none)
+            (operation-fresh r p h tries bounded bare apart few));
+        waiting_are = ap numbers (members-ranked r.moment (unseen_operation tries begun))
             ∙ sym (unanswered-new h lawful r.moment (begun_request r client p.scope) number);
-        confirmed_is = confirmed-ranked r.moment (unseen_operation begun)
+        confirmed_is = confirmed-ranked r.moment (unseen_operation tries begun)
             ∙ sym (unasked_unconfirmed h lawful begun (omega (arith, number)));
         untried_is = untried_now ∙ sym (ap (untried begun) acts_none);
         enough = omega (arith, untried_now, left);
@@ -141,15 +140,15 @@ module _ (r : Begun) (p : Plan) (h : History) (client : List ℕ) (lawful : Lawf
       open-asked h lawful r.moment (begun_request r client p.scope) number
       ∙ ap (λ (q : Plan). open_operations h ++ operation_by r.req.0 (asked_of r p.scope h) q ∷ []) (sym planned)
 
-  pub stands-begun : (v : Kept) → StandsFor v h → length p.candidates ≤ MOST_DEVICES →
-      length p.levels ≤ MOST_LEVELS_OF_TARGET → AreFewDevices p.levels →
-      StandsFor (record v { operations = v.operations ++ fresh_operation begun ∷ [] }) after
-  stands-begun v s few few_levels few_devices = record {
-    each = subst (λ (os : List Operation). AllZip (Stands after) (v.operations ++ fresh_operation begun ∷ []) os)
+  pub stands-begun : (tries : ℕ) → tries ≡ tries_of (all_slots begun) → length p.candidates ≤ MOST_DEVICES →
+      (v : Kept) → StandsFor v h →
+      StandsFor (record v { operations = v.operations ++ fresh_operation tries begun ∷ [] }) after
+  stands-begun tries counted few v s = record {
+    each = subst (λ (os : List Operation). AllZip (Stands after) (v.operations ++ fresh_operation tries begun ∷ []) os)
         (sym opened)
-        (zip_append (Stands after) v.operations (fresh_operation begun ∷ []) (open_operations h) (begun ∷ [])
+        (zip_append (Stands after) v.operations (fresh_operation tries begun ∷ []) (open_operations h) (begun ∷ [])
         (others-stand v.operations (open_operations h) (open-small h lawful) s.each)
-        (fresh-stands few few_levels few_devices, tt));
+        (fresh-stands tries counted few, tt));
     alive = s.alive;
   }
 
@@ -158,19 +157,19 @@ find-other t [] x e = rw e refl
 find-other t (y ∷ ys) x e = ap (cond (t y) (Some y)) (find-other t ys x e)
 
 -- the other operations wait for what they waited for
-pub others-wait : (r : Begun) (p : Plan) (h : History) (v : Kept) →
-    OthersWait r.req.0 v (record v { operations = v.operations ++ fresh_operation (begun_by r p h) ∷ [] })
-others-wait r p h v n e = ap (option_and_then OperationRecords.waiting) (find-other (is_of n) v.operations
-    (fresh_operation (begun_by r p h)) (ap (λ k. k == n) (req-ranked r.moment (unseen_operation (begun_by r p h)))
-    ∙ other))
+pub others-wait : (r : Begun) (p : Plan) (h : History) (tries : ℕ) (v : Kept) →
+    OthersWait r.req.0 v (record v { operations = v.operations ++ fresh_operation tries (begun_by r p h) ∷ [] })
+others-wait r p h tries v n e = ap (option_and_then OperationRecords.waiting) (find-other (is_of n) v.operations
+    (fresh_operation tries (begun_by r p h))
+    (ap (λ k. k == n) (req-ranked r.moment (unseen_operation tries (begun_by r p h))) ∙ other))
   where
     other : (r.req.0 == n) ≡ false
     other = ne_eqb r.req.0 n (λ g. let same : (n == r.req.0) ≡ true = eq-eqb n r.req.0 (sym g) in
         let wrong : true ≡ false = sym same ∙ e in cc)
 
 -- the same whether there was memory or not
-pub others-wait-ever : (r : Begun) (p : Plan) (h : History) (v w : Kept) (x : Result (Unit {0}) NoMemory) →
-    OnOk x (w ≡ record v { operations = v.operations ++ fresh_operation (begun_by r p h) ∷ [] }) → OnErr x (w ≡ v) →
-    OthersWait r.req.0 v w
-others-wait-ever r p h v w (Ok u) e f = subst (OthersWait r.req.0 v) (sym e) (others-wait r p h v)
-others-wait-ever r p h v w (Err u) e f = subst (OthersWait r.req.0 v) (sym f) (λ n k. refl)
+pub others-wait-ever : (r : Begun) (p : Plan) (h : History) (tries : ℕ) (v w : Kept) (x : Result (Unit {0}) NoMemory) →
+    OnOk x (w ≡ record v { operations = v.operations ++ fresh_operation tries (begun_by r p h) ∷ [] }) →
+    OnErr x (w ≡ v) → OthersWait r.req.0 v w
+others-wait-ever r p h tries v w (Ok u) e f = subst (OthersWait r.req.0 v) (sym e) (others-wait r p h tries v)
+others-wait-ever r p h tries v w (Err u) e f = subst (OthersWait r.req.0 v) (sym f) (λ n k. refl)

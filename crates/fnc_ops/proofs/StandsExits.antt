@@ -50,7 +50,7 @@ use Rattle.fnc_journal.specs.Startable.{is_alive}
 use Rattle.fnc_journal.proofs.ActsLemmas.{acts-exit, acts-other_exit}
 use Rattle.fnc_journal.proofs.AliveRuns.{alive_is_last}
 use Rattle.fnc_journal.proofs.Frames.{or_here-some}
-use Rattle.fnc_journal.proofs.Lawfulness.{and-left, and-right}
+use Rattle.fnc_journal.proofs.Lawfulness.{and-right}
 use Rattle.fnc_journal.proofs.RunsOfOne.{runner-of, run-of_other}
 use Rattle.fnc_records.specs.KeptOperation.{KeptOperation}
 use Rattle.fnc_records.specs.LevelFacts.{AreFew}
@@ -233,11 +233,6 @@ module _ (h : History) (l : Lawful h) (m : ℕ) (over : Ended) (few : length h +
   ended-all st e (r ∷ rs) [] z a = absurd z
   ended-all st e (r ∷ rs) (o ∷ os) z a = (ended-of st e r o z.0 a.0, ended-all st e rs os z.1 a.1)
 
-  pub stands-ended : (rs : List KeptOperation) → StandEach rs h → AreAt m rs →
-      StandEach (ended (started over.run.0 h) over m rs) after
-  stands-ended rs z a =
-      (go (started over.run.0 h) refl (and-left (is_some (started over.run.0 h)) (not (has_exit over.run.0 h)) alive))
-    where
-      go : (x : Option Start) → started over.run.0 h ≡ x → is_some x ≡ true → StandEach (ended x over m rs) after
-      go None k g = cc
-      go (Some st) k g = ended-all st k rs (open_operations h) z a
+  pub stands-ended : (st : Start) → started over.run.0 h ≡ Some st → (rs : List KeptOperation) → StandEach rs h →
+      AreAt m rs → StandEach (ended st over m rs) after
+  stands-ended st e rs z a = ended-all st e rs (open_operations h) z a

@@ -181,15 +181,14 @@ ended-moment : (slot : Slot) (exit : Exit) (listed : Bool) (m : ℕ) (r : KeptOp
 ended-moment slot exit listed m r =
     moment-ranked m (record r { levels = map (level_ended slot exit listed r.over m) r.levels })
 
-pub at-ended : (x : Option Start) (over : Ended) (m at : ℕ) (rs : List KeptOperation) → AreAt at rs →
-    AreAt at (ended x over m rs)
-at-ended None over m at rs a = a
-at-ended (Some s) over m at rs a =
+pub at-ended : (s : Start) (over : Ended) (m at : ℕ) (rs : List KeptOperation) → AreAt at rs →
+    AreAt at (ended s over m rs)
+at-ended s over m at rs a =
     let seen = operation_ended s.slot over.exit over.listed m in
     at-map at (only s.req.0 seen) (moment-only s.req.0 seen (ended-moment s.slot over.exit over.listed m)) rs a
 
 pub waiting-ended : (s : Start) (over : Ended) (m n : ℕ) → (n == s.req.0) ≡ false → (rs : List KeptOperation) →
-    waiting n (ended (Some s) over m rs) ≡ waiting n rs
+    waiting n (ended s over m rs) ≡ waiting n rs
 waiting-ended s over m n other rs =
     waiting-only s.req.0 (operation_ended s.slot over.exit over.listed m) (ended-req s.slot over.exit over.listed m) n
     other rs

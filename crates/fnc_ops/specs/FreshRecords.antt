@@ -1,23 +1,5 @@
 -- What the record of an operation says when that begins: nothing was started yet.
-use Rattle.std.specs.Prelude.{
-  ℕ,
-  List,
-  [],
-  ◌∷◌,
-  Bool,
-  true,
-  false,
-  ◌+◌,
-  nat_le,
-  if◌then◌else◌,
-  map,
-  length,
-  Some,
-  None,
-  Option,
-  option_map,
-  option_and_then,
-}
+use Rattle.std.specs.Prelude.{ℕ, List, [], ◌∷◌, Bool, true, false, ◌+◌, nat_le, if◌then◌else◌, map, length, None, Option, option_map, option_and_then}
 use Rattle.std.specs.List.{cons_option}
 use Rattle.fnc_journal.specs.declared.entry.Kind.{Kind}
 use Rattle.fnc_journal.specs.declared.entry.Scope.{Scope}
@@ -30,7 +12,6 @@ use Rattle.fnc_journal.specs.Slots.{Task, Rank, QueriedDevice, Operation, time, 
 use Rattle.fnc_ops.specs.declared.ops.Operation.{Operation as Request}
 use Rattle.fnc_records.specs.declared.slot.LastRun.{LastRun}
 use Rattle.fnc_records.specs.declared.slot.SlotRecord.{SlotRecord}
-use Rattle.fnc_records.specs.SlotRecords.{capped}
 use Rattle.fnc_records.specs.KeptLevel.{KeptLevel}
 use Rattle.fnc_records.specs.KeptOperation.{KeptOperation}
 use Rattle.fnc_records.specs.OperationRecords.{ranked_if_queried}
@@ -113,28 +94,9 @@ fresh_levels o =
     if o.levelled then map (fresh_level o.target o.coin) o.levels
     else map (fresh_candidate o.kind o.target o.coin) o.candidates
 
--- the allowed tries of these slots, added to a number
-abbrev pub tries_after : ℕ → List SlotRecord → ℕ
-tries_after n [] = n
-tries_after n (r ∷ rs) = tries_after (capped 32 (n + r.tries)) rs
-
--- a number with the allowed tries of a query that may not be there
-abbrev pub query_tries_after : ℕ → Option SlotRecord → ℕ
-query_tries_after n None = n
-query_tries_after n (Some q) = capped 32 (n + q.tries)
-
--- a number with the allowed tries of all slots of a level
-abbrev pub level_tries_after : ℕ → KeptLevel → ℕ
-level_tries_after n l = tries_after (tries_after (query_tries_after n l.query) l.firsts) l.ons
-
--- a number with the allowed tries of all slots of these levels
-abbrev pub all_tries_after : ℕ → List KeptLevel → ℕ
-all_tries_after n [] = n
-all_tries_after n (l ∷ ls) = all_tries_after (level_tries_after n l) ls
-
--- the record before it is seen whether a query is open
-abbrev pub unseen_operation : Operation → KeptOperation
-unseen_operation o = record {
+-- the record of an operation with so many allowed tries, before it is seen whether a query is open
+abbrev pub unseen_operation : ℕ → Operation → KeptOperation
+unseen_operation tries o = record {
   req = o.req;
   kind = o.kind;
   target = o.target;
@@ -143,14 +105,14 @@ unseen_operation o = record {
   moment = o.begin;
   confirmed = false;
   ranked = o.levelled;
-  untried = all_tries_after 0 (fresh_levels o);
+  untried = tries;
   levels = fresh_levels o;
   members = record { 0 = o.req } ∷ [];
 }
 
 -- the record of an operation that begins: where no query is open it is known at once which levels are tried
-abbrev pub fresh_operation : Operation → KeptOperation
-fresh_operation o = ranked_if_queried o.begin (unseen_operation o)
+abbrev pub fresh_operation : ℕ → Operation → KeptOperation
+fresh_operation tries o = ranked_if_queried o.begin (unseen_operation tries o)
 
 -- what is asked by the request that begins it, after the entries before
 abbrev pub asked_of : Request → Scope → History → Asked

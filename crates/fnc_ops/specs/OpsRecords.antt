@@ -90,9 +90,8 @@ started req m v = record {
 }
 
 -- after the exit of a run that was started so
-abbrev pub ended : Option Start → Ended → ℕ → List KeptOperation → List KeptOperation
-ended None over m os = os
-ended (Some s) over m os =
+abbrev pub ended : Start → Ended → ℕ → List KeptOperation → List KeptOperation
+ended s over m os =
     map (OperationRecords.only s.req.0 (OperationRecords.operation_ended s.slot over.exit over.listed m)) os
 
 -- an operation whose standing slot has come to its action's end

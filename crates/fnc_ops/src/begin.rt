@@ -9,7 +9,7 @@ use crate::fresh::fresh_levels;
 use crate::ops::Operation;
 use fnc_journal::limits::MOST_DEVICES;
 use fnc_journal::{Journal, NoMemory, Plan, Scope};
-use fnc_records::{LevelRecord, OperationRecord, SlotRecord};
+use fnc_records::OperationRecord;
 use std::alloc::Global;
 
 /// Whether levels are tried, and not candidates.
@@ -22,56 +22,19 @@ pub(crate) fn is_levelled(scope: Scope) -> bool
     }
 }
 
-/// The allowed tries of these slots, added to a number.
-fn tries_after(before: u32, slots: &[SlotRecord]) -> u32
-    ensures { result ≡ FreshRecords.tries_after before slots.now }
-{
-    let mut tries = before;
-    for slot in slots {
-        tries = tries.saturating_add(u32::from(slot.tries));
-    }
-    tries
-}
-
-fn query_tries_after(before: u32, query: Option<SlotRecord>) -> u32
-    ensures { result ≡ FreshRecords.query_tries_after before query }
-{
-    match query {
-        None => before,
-        Some(slot) => before.saturating_add(u32::from(slot.tries)),
-    }
-}
-
-fn level_tries_after(before: u32, level: &LevelRecord) -> u32
-    ensures { result ≡ FreshRecords.level_tries_after before level.now }
-{
-    let queried = query_tries_after(before, level.query);
-    tries_after(tries_after(queried, &level.firsts), &level.ons)
-}
-
-/// The allowed tries of all slots of these levels.
-fn all_tries(levels: &[LevelRecord]) -> u32
-    ensures { result ≡ FreshRecords.all_tries_after 0 levels.now }
-{
-    let mut tries = 0;
-    for level in levels {
-        tries = level_tries_after(tries, level);
-    }
-    tries
-}
-
 /// The record before it is seen whether a query is open.
 fn unseen_operation(
     alloc: Global,
     journal: &Journal,
     operation: Operation,
     plan: &Plan,
+    tries: u32,
 ) -> Result<OperationRecord, NoMemory>
     requires levels { AreFewDevices plan.now.levels }
     requires candidates { length plan.now.candidates ≤ MOST_DEVICES }
     requires over { operation.moment + operation.total < 2 ^ 64 }
     ensures { IfOk result (λ r. r ≡
-        FreshRecords.unseen_operation (FreshRecords.begun_by operation plan.now journal.now.history)) }
+        FreshRecords.unseen_operation tries (FreshRecords.begun_by operation plan.now journal.now.history)) }
 {
     let levels = fresh_levels(alloc, journal, &operation, plan)?;
     let mut members = Vec::new(alloc);
@@ -85,28 +48,29 @@ fn unseen_operation(
         moment: operation.moment,
         confirmed: false,
         ranked: is_levelled(plan.scope),
-        untried: all_tries(&levels),
+        untried: tries,
         levels,
         members,
     })
 }
 
-/// The record of an operation that begins, with its plan. Where no query is open it is known at once which
-/// levels are tried.
+/// The record of an operation that begins, with its plan and with the allowed tries of all its slots. Where no query
+/// is open it is known at once which levels are tried.
 pub fn fresh_operation(
     alloc: Global,
     journal: &Journal,
     operation: Operation,
     plan: &Plan,
+    tries: u32,
 ) -> Result<OperationRecord, NoMemory>
     requires levels { AreFewDevices plan.now.levels }
     requires candidates { length plan.now.candidates ≤ MOST_DEVICES }
     requires over { operation.moment + operation.total < 2 ^ 64 }
     ensures { IfOk result (λ r. r ≡
-        FreshRecords.fresh_operation (FreshRecords.begun_by operation plan.now journal.now.history)) }
+        FreshRecords.fresh_operation tries (FreshRecords.begun_by operation plan.now journal.now.history)) }
 {
     let moment = operation.moment;
-    let mut record = unseen_operation(alloc, journal, operation, plan)?;
+    let mut record = unseen_operation(alloc, journal, operation, plan, tries)?;
     record.see_moment(moment);
     Ok(record)
 }

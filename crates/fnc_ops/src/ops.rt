@@ -2,7 +2,6 @@
 
 ghost use Rattle.std.specs.Prelude.{◌≡◌, ◌∷◌, [], ◌<◌, ◌≤◌, ◌+◌, ◌-◌, ◌++◌, ◌^◌, ◌==◌, ℕ, List, length, map, find};
 ghost use Rattle.std.specs.Prelude.{option_map, true, false, Some, None, OnOk, OnErr, slice_get};
-ghost use Rattle.std.specs.Option.{option_copied};
 ghost use Rattle.fnc_journal.specs.History.{History};
 ghost use Rattle.fnc_journal.specs.Operations as Operations;
 ghost use Rattle.fnc_records.specs.OperationRecords as OperationRecords;
@@ -15,7 +14,8 @@ ghost use Rattle.fnc_ops.specs.OpsRecords.{OthersWait, AllWait};
 ghost use Rattle.fnc_journal.specs.Found as Found;
 ghost use Rattle.fnc_journal.specs.Found.{starts, asks};
 ghost use Rattle.fnc_journal.specs.Plan as Planned;
-ghost use Rattle.fnc_ops.specs.FreshRecords.{wanted_by};
+ghost use Rattle.fnc_journal.specs.Slots.{all_slots};
+ghost use Rattle.fnc_ops.specs.FreshRecords.{begun_by, wanted_by};
 ghost use Rattle.fnc_journal.specs.Owed as Owed;
 ghost use Rattle.fnc_journal.specs.Operations.{open_operations, is_open, settled};
 ghost use Rattle.fnc_journal.specs.Lawful.{Lawful};
@@ -26,7 +26,7 @@ use crate::records::{
     first_due, first_expired, first_member, join, joinable, keep_waiting, owed_with, see_confirm,
     see_exit, see_moment, see_moment_unless_ending, see_reply, see_start, standing_of, waiting_of,
 };
-use fnc_journal::limits::{DAY, GREATEST_MOMENT, MOST_DEVICES, MOST_LEVELS_OF_TARGET};
+use fnc_journal::limits::{DAY, GREATEST_MOMENT, MOST_DEVICES};
 use fnc_journal::{
     Answer, Confirmation, Ended, Journal, Kind, NoMemory, Plan, Req, Request, Start, Text,
 };
@@ -171,13 +171,15 @@ impl Ops {
         Ok(())
     }
 
-    /// An operation begins, with the plan that it has from now on: it is the last of those that are open.
+    /// An operation begins, with the plan that it has from now on and with the allowed tries of all its slots, as
+    /// `allowed_tries` counts them: it is the last of those that are open.
     pub fn begin(
         &mut self,
         alloc: Global,
         journal: &Journal,
         operation: Operation,
         plan: Plan,
+        tries: u32,
     ) -> Result<(), NoMemory>
         requires stands { StandsFor self.old journal.now.history }
         requires lawful { Lawful journal.now.history }
@@ -188,8 +190,9 @@ impl Ops {
         requires planned { plan ≡ Planned.plan (wanted_by operation plan.scope) journal.now.history }
         requires bounded { AreBounded journal.now.history }
         requires few_candidates { length plan.candidates ≤ MOST_DEVICES }
-        requires few_levels { length plan.levels ≤ MOST_LEVELS_OF_TARGET }
         requires few_devices { AreFewDevices plan.levels }
+        requires tries { tries ≡
+            Owed.tries_of (all_slots (begun_by operation plan journal.now.history)) }
         ensures ok { (client : List ℕ) →
             OnOk result
             (StandsFor self.new
@@ -198,7 +201,7 @@ impl Ops {
         ensures others { OthersWait operation.req.0 self.old self.new }
         ensures err { OnErr result (self.new ≡ self.old) }
     {
-        let record = fresh_operation(alloc, journal, operation, &plan)?;
+        let record = fresh_operation(alloc, journal, operation, &plan, tries)?;
         self.kept_begun(record)
     }
 
@@ -318,39 +321,37 @@ impl Ops {
         self.kept_confirmed(target);
     }
 
-    fn kept_ended(&mut self, start: Option<&Start>, ended: Ended, moment: u64)
+    fn kept_ended(&mut self, start: &Start, ended: Ended, moment: u64)
         ensures { self.new ≡ record {
-          operations = OpsRecords.ended (option_copied start.entry) ended moment self.old.operations;
+          operations = OpsRecords.ended start.now ended moment self.old.operations;
           alive = self.old.alive - 1;
         } }
     {
         self.alive = self.alive.saturating_sub(1);
-        if let Some(s) = start {
-            see_exit(
-                &mut self.records,
-                s.req,
-                s.slot,
-                ended.exit,
-                ended.listed,
-                moment,
-            );
-        }
+        see_exit(
+            &mut self.records,
+            start.req,
+            start.slot,
+            ended.exit,
+            ended.listed,
+            moment,
+        );
     }
 
-    /// A run has ended, of an operation that is open or of one that is not.
-    pub fn ended(&mut self, journal: &Journal, ended: Ended, moment: u64)
+    /// A run that was started so has ended, of an operation that is open or of one that is not.
+    pub fn ended(&mut self, journal: &Journal, start: &Start, ended: Ended, moment: u64)
         requires stands { StandsFor self.old journal.now.history }
         requires at { AreAt moment self.old.operations }
         requires lawful { Lawful journal.now.history }
         requires alive { is_alive ended.run.0 journal.now.history ≡ true }
+        requires started { Found.started ended.run.0 journal.now.history ≡ Some start.now }
         requires few { length journal.now.history + 1 < 2 ^ 32 }
         requires settled { settled journal.now.history moment ≡ true }
         ensures stands { StandsFor self.new (exit_entry moment ended ∷ journal.now.history) }
         ensures at { AreAt moment self.new.operations }
-        ensures others { (start : Start) → Found.started ended.run.0 journal.now.history ≡ Some start →
-            OthersWait start.req.0 self.old self.new }
+        ensures others { OthersWait start.now.req.0 self.old self.new }
     {
-        self.kept_ended(journal.start_of(ended.run), ended, moment);
+        self.kept_ended(start, ended, moment);
     }
 
     fn kept_member(&self, operation: Req) -> Option<Req>

@@ -1,5 +1,34 @@
 -- A text that has a byte begins with a line.
-use Rattle.std.proofs.Common.{◌≡◌, ◌+◌, ◌==◌, ℕ, List, [], ◌∷◌, Bool, true, false, if◌then◌else◌, take, drop, refl, add-one, suc, length, count_by, ◌≤◌, arith, sym, ◌<◌, length-drop, drop-drop, ◌-◌, ◌∙◌, ap, subst}
+use Rattle.std.proofs.Common.{
+  ◌≡◌,
+  ◌+◌,
+  ◌==◌,
+  ℕ,
+  List,
+  [],
+  ◌∷◌,
+  Bool,
+  true,
+  false,
+  if◌then◌else◌,
+  take,
+  drop,
+  refl,
+  add-one,
+  suc,
+  length,
+  count_by,
+  ◌≤◌,
+  arith,
+  sym,
+  ◌<◌,
+  length-drop,
+  drop-drop,
+  ◌-◌,
+  ◌∙◌,
+  ap,
+  subst,
+}
 use Rattle.std.proofs.lemmas.List.{take_rest}
 use Rattle.std.proofs.lemmas.List.Recursion.{is_count_by}
 use Rattle.fnc_outside.specs.Lines.{put_first, lines_of, line_length}
@@ -10,7 +39,8 @@ IsCut text = lines_of text ≡ take (line_length text) text ∷ lines_of (drop (
 
 cut_by : (is_end : Bool) (byte : ℕ) (rest : List ℕ) → IsCut rest →
     (if is_end then [] ∷ lines_of rest else put_first byte (lines_of rest))
-    ≡ take (if is_end then 0 else line_length rest + 1) (byte ∷ rest) ∷ lines_of (drop ((if is_end then 0 else line_length rest + 1) + 1) (byte ∷ rest))
+    ≡ take (if is_end then 0 else line_length rest + 1) (byte ∷ rest) ∷ lines_of
+    (drop ((if is_end then 0 else line_length rest + 1) + 1) (byte ∷ rest))
 cut_by true byte rest cut = refl
 cut_by false byte rest cut = rw (cut, add-one (line_length rest), add-one (suc (line_length rest))) refl
 
@@ -36,7 +66,8 @@ pub record IsCutAt (text : List ℕ) (at : ℕ) (seen : List ℕ) (size : ℕ) :
   pub within : at + size ≤ length text
 
 pub cut_at : (text slice : List ℕ) (at size : ℕ) → slice ≡ text → at < length text →
-    size ≡ line_length (take (length slice - at) (drop at slice)) → size ≤ length (take (length slice - at) (drop at slice)) →
+    size ≡ line_length (take (length slice - at) (drop at slice)) →
+    size ≤ length (take (length slice - at) (drop at slice)) →
     IsCutAt text at (take (length slice - at) (drop at slice)) size
 cut_at text slice at size same within is short =
     let seen : take (length slice - at) (drop at slice) ≡ drop at text = rw same (take_rest text at) in
@@ -58,7 +89,8 @@ abbrev line_feeds : List ℕ → ℕ
 line_feeds [] = 0
 line_feeds (byte ∷ rest) = if byte == 10 then 1 + line_feeds rest else line_feeds rest
 
-not_longer : (byte : ℕ) (lines : List (List ℕ)) (most : ℕ) → length lines ≤ most + 1 → length (put_first byte lines) ≤ most + 1
+not_longer : (byte : ℕ) (lines : List (List ℕ)) (most : ℕ) → length lines ≤ most + 1 →
+    length (put_first byte lines) ≤ most + 1
 not_longer byte [] most bound = omega arith
 not_longer byte (line ∷ lines) most bound = bound
 

@@ -13,7 +13,8 @@ pub gains-gains : {A : Type 0} (before between after : Option (List A)) (xs ys :
 gains-gains before between None xs ys first second = tt
 gains-gains before None (Some new) xs ys first second = absurd second
 gains-gains None (Some middle) (Some new) xs ys first second = absurd first
-gains-gains (Some old) (Some middle) (Some new) xs ys first second = second ∙ ap (λ zs. zs ++ ys) first ∙ append_assoc old xs ys
+gains-gains (Some old) (Some middle) (Some new) xs ys first second =
+    second ∙ ap (λ zs. zs ++ ys) first ∙ append_assoc old xs ys
 
 -- part of a piece after a whole one is part of both
 pub gains-part : (before between after : Option (List ℕ)) (text piece : List ℕ) → Gains before between text →
@@ -22,7 +23,9 @@ gains-part before between after text piece first second =
     record {
       count = length text + second.count;
       within = omega (arith, second.within, length-append text piece);
-      gained = rw (take-append-add text piece second.count) (gains-gains before between after text (take second.count piece) first second.gained);
+      gained =
+          rw (take-append-add text piece second.count)
+          (gains-gains before between after text (take second.count piece) first second.gained);
     }
 
 -- what was added stays where the second call leaves all as it was

@@ -9,8 +9,6 @@ mod memory_source;
 mod numbers;
 mod sink;
 mod source;
-#[cfg(test)]
-mod tests;
 
 pub use line_buf::LineBuf;
 pub use memory_sink::{MemorySink, Torn};

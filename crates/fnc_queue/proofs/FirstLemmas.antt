@@ -1,5 +1,35 @@
 -- The first to start is the least of those that may start.
-use Rattle.std.proofs.Common.{ℕ, List, [], ◌∷◌, Bool, true, false, ◌≡◌, ◌<◌, ◌+◌, refl, sym, ap, ◌∙◌, subst, Option, Some, None, is_some, arith, add-one, suc, zero, eq-eqb, Bor, IfSome, cond, ◌==◌, ◌||◌}
+use Rattle.std.proofs.Common.{
+  ℕ,
+  List,
+  [],
+  ◌∷◌,
+  Bool,
+  true,
+  false,
+  ◌≡◌,
+  ◌<◌,
+  ◌+◌,
+  refl,
+  sym,
+  ap,
+  ◌∙◌,
+  subst,
+  Option,
+  Some,
+  None,
+  is_some,
+  arith,
+  add-one,
+  suc,
+  zero,
+  eq-eqb,
+  Bor,
+  IfSome,
+  cond,
+  ◌==◌,
+  ◌||◌,
+}
 use Rattle.std.specs.Option.{option_copied}
 use Rattle.std.specs.List.{list_any, AllByRecursion, Contains}
 use Rattle.fnc_journal.specs.declared.entry.Reg.{Reg}
@@ -21,7 +51,8 @@ before-negative a b c h k = grind arith
 
 -- no item of the list that may start comes before this one
 abbrev pub IsLeast : ℕ → List Reg → Waiting → List Waiting → Type 0
-IsLeast m alive item items = AllByRecursion (λ other. may_start m alive other ≡ true → is_before other item ≡ false) items
+IsLeast m alive item items =
+    AllByRecursion (λ other. may_start m alive other ≡ true → is_before other item ≡ false) items
 
 -- what the first of a list is
 abbrev pub Leads : ℕ → List Reg → List Waiting → Option Waiting → Type 0
@@ -37,26 +68,34 @@ contains-here item items = (0, omega arith, refl)
 -- its operation has a try that waits
 pub contained-waits : (item : Waiting) (items : List Waiting) → Contains items item → is_waiting item.req.0 items ≡ true
 contained-waits item [] (k, l, e) = absurd (omega (arith, l))
-contained-waits item (x ∷ items) (zero, l, e) = rw e (let same : (item.req.0 == item.req.0) ≡ true = eq-eqb item.req.0 item.req.0 refl in rw same refl)
-contained-waits item (x ∷ items) (suc k, l, e) = go (x.req.0 == item.req.0) (contained-waits item items (k, omega (arith, l), e))
+contained-waits item (x ∷ items) (zero, l, e) =
+    rw e (let same : (item.req.0 == item.req.0) ≡ true = eq-eqb item.req.0 item.req.0 refl in rw same refl)
+contained-waits item (x ∷ items) (suc k, l, e) =
+    go (x.req.0 == item.req.0) (contained-waits item items (k, omega (arith, l), e))
   where
     go : (b : Bool) → is_waiting item.req.0 items ≡ true → (b || is_waiting item.req.0 items) ≡ true
     go true h = refl
     go false h = h
 
 module _ (m : ℕ) (alive : List Reg) where
-  none-before : (item : Waiting) (items : List Waiting) → AllByRecursion (λ other. may_start m alive other ≡ false) items → IsLeast m alive item items
+  none-before : (item : Waiting) (items : List Waiting) →
+      AllByRecursion (λ other. may_start m alive other ≡ false) items → IsLeast m alive item items
   none-before item [] a = tt
   none-before item (other ∷ items) a = ((λ h. let both : true ≡ false = sym h ∙ a.0 in cc), none-before item items a.1)
 
-  later-before : (item first : Waiting) (items : List Waiting) → is_before first item ≡ false → IsLeast m alive first items → IsLeast m alive item items
+  later-before : (item first : Waiting) (items : List Waiting) → is_before first item ≡ false →
+      IsLeast m alive first items → IsLeast m alive item items
   later-before item first [] h a = tt
-  later-before item first (other ∷ items) h a = ((λ k. before-negative other first item (a.0 k) h), later-before item first items h a.1)
+  later-before item first (other ∷ items) h a =
+      ((λ k. before-negative other first item (a.0 k) h), later-before item first items h a.1)
 
-  leads-more : (item : Waiting) (items : List Waiting) (o : Option Waiting) → Leads m alive items o → (b : Bool) → may_start m alive item ≡ b → Leads m alive (item ∷ items) (soonest (cond b (Some item) None) o)
-  leads-more item items None a true e = (contains-here item items, e, ((λ _. before-irreflexive item), none-before item items a))
+  leads-more : (item : Waiting) (items : List Waiting) (o : Option Waiting) → Leads m alive items o → (b : Bool) →
+      may_start m alive item ≡ b → Leads m alive (item ∷ items) (soonest (cond b (Some item) None) o)
+  leads-more item items None a true e =
+      (contains-here item items, e, ((λ _. before-irreflexive item), none-before item items a))
   leads-more item items None a false e = (e, a)
-  leads-more item items (Some x) a false e = (contains-later x item items a.0, a.1, ((λ h. let both : true ≡ false = sym h ∙ e in cc), a.2))
+  leads-more item items (Some x) a false e =
+      (contains-later x item items a.0, a.1, ((λ h. let both : true ≡ false = sym h ∙ e in cc), a.2))
   leads-more item items (Some x) a true e = go (is_before x item) refl
     where
       go : (b : Bool) → is_before x item ≡ b → Leads m alive (item ∷ items) (Some (cond b x item))
@@ -68,11 +107,13 @@ module _ (m : ℕ) (alive : List Reg) where
   leads (item ∷ items) = leads-more item items (first_among m alive items) (leads items) (may_start m alive item) refl
 
   -- there is one exactly where any may start
-  pub first-where-any : (items : List Waiting) → is_some (first_among m alive items) ≡ list_any (may_start m alive) items
+  pub first-where-any : (items : List Waiting) →
+      is_some (first_among m alive items) ≡ list_any (may_start m alive) items
   first-where-any [] = refl
   first-where-any (item ∷ items) = go (may_start m alive item) (first_among m alive items) (first-where-any items)
     where
-      go : (b : Bool) (o : Option Waiting) → is_some o ≡ list_any (may_start m alive) items → is_some (soonest (cond b (Some item) None) o) ≡ (b || list_any (may_start m alive) items)
+      go : (b : Bool) (o : Option Waiting) → is_some o ≡ list_any (may_start m alive) items →
+          is_some (soonest (cond b (Some item) None) o) ≡ (b || list_any (may_start m alive) items)
       go true None e = refl
       go true (Some x) e = refl
       go false o e = e
@@ -84,37 +125,45 @@ first-is-first m q item e =
     record { waits = l.0; starts = l.1; least = l.2 }
 
 -- what holds of each item holds of one that is in the list
-each-contained : (P : Waiting → Type 0) (items : List Waiting) (item : Waiting) → AllByRecursion P items → Contains items item → P item
+each-contained : (P : Waiting → Type 0) (items : List Waiting) (item : Waiting) → AllByRecursion P items →
+    Contains items item → P item
 each-contained P [] item a (k, l, e) = absurd (omega (arith, l))
 each-contained P (x ∷ items) item a (zero, l, e) = subst P e a.0
 each-contained P (x ∷ items) item a (suc k, l, e) = each-contained P items item a.1 (k, omega (arith, l), e)
 
 -- an operation has no other item than this one
-pub contained-own : (item : Waiting) (items : List Waiting) → InOrder items → Contains items item → item_of item.req.0 items ≡ Some item
+pub contained-own : (item : Waiting) (items : List Waiting) → InOrder items → Contains items item →
+    item_of item.req.0 items ≡ Some item
 contained-own item [] o (k, l, e) = absurd (omega (arith, l))
 contained-own item (x ∷ items) o (zero, l, e) =
-    subst (λ (w : Waiting). item_of w.req.0 (x ∷ items) ≡ Some w) e (let same : (x.req.0 == x.req.0) ≡ true = eq-eqb x.req.0 x.req.0 refl in rw same refl)
+    subst (λ (w : Waiting). item_of w.req.0 (x ∷ items) ≡ Some w) e
+    (let same : (x.req.0 == x.req.0) ≡ true = eq-eqb x.req.0 x.req.0 refl in rw same refl)
 contained-own item (x ∷ items) o (suc k, l, e) =
-    let later : x.req.0 < item.req.0 = each-contained (λ other. x.req.0 < other.req.0) items item o.0 (k, omega (arith, l), e) in
+    let later : x.req.0 < item.req.0 = each-contained (λ other. x.req.0 < other.req.0) items item o.0
+    (k, omega (arith, l), e) in
     let other : (x.req.0 == item.req.0) ≡ false = other-number x.req.0 item.req.0 later in
     rw other (contained-own item items o.1 (k, omega (arith, l), e))
 
 -- so it is with the first of a queue
-pub first-own : (m : ℕ) (q : Queued) (item : Waiting) → InOrder q.waiting → IsFirst m q item → item_of item.req.0 q.waiting ≡ Some item
+pub first-own : (m : ℕ) (q : Queued) (item : Waiting) → InOrder q.waiting → IsFirst m q item →
+    item_of item.req.0 q.waiting ≡ Some item
 first-own m q item o f = contained-own item q.waiting o f.waits
 
 -- the same of a reference to it
-pub borrowed-some : (m : ℕ) (q : Queued) (o : Option (Bor Waiting)) → option_copied o ≡ first_of m q → is_some o ≡ any_may_start m q
+pub borrowed-some : (m : ℕ) (q : Queued) (o : Option (Bor Waiting)) → option_copied o ≡ first_of m q →
+    is_some o ≡ any_may_start m q
 borrowed-some m q o e = same o ∙ ap is_some e ∙ first-where-any m q.alive q.waiting
   where
     same : (o : Option (Bor Waiting)) → is_some o ≡ is_some (option_copied o)
     same None = refl
     same (Some x) = refl
 
-pub borrowed-own : (m : ℕ) (q : Queued) (o : Option (Bor Waiting)) → InOrder q.waiting → option_copied o ≡ first_of m q → IfSome o (λ item. item_of item.now.req.0 q.waiting ≡ Some item.now)
+pub borrowed-own : (m : ℕ) (q : Queued) (o : Option (Bor Waiting)) → InOrder q.waiting →
+    option_copied o ≡ first_of m q → IfSome o (λ item. item_of item.now.req.0 q.waiting ≡ Some item.now)
 borrowed-own m q None i e = tt
 borrowed-own m q (Some x) i e = first-own m q x.now i (first-is-first m q x.now (sym e))
 
-pub borrowed-first : (m : ℕ) (q : Queued) (o : Option (Bor Waiting)) → option_copied o ≡ first_of m q → IfSome o (λ item. IsFirst m q item.now)
+pub borrowed-first : (m : ℕ) (q : Queued) (o : Option (Bor Waiting)) → option_copied o ≡ first_of m q →
+    IfSome o (λ item. IsFirst m q item.now)
 borrowed-first m q None e = tt
 borrowed-first m q (Some x) e = first-is-first m q x.now (sym e)

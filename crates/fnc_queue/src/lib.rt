@@ -9,6 +9,3 @@ mod waiting;
 
 pub use queue::Queue;
 pub use waiting::Waiting;
-
-#[cfg(test)]
-mod tests;

@@ -41,8 +41,6 @@ use Rattle.fnc_journal.specs.Lawful.{last_moment}
 use Rattle.fnc_journal.specs.Owed.{owed}
 use Rattle.fnc_journal.specs.Served.{AreReplies}
 use Rattle.fnc_outside.specs.Events.{Happening}
-use Rattle.fnc_outside.specs.Told.{Gains}
-use Rattle.fnc_outside.proofs.Telling.{gains-gains}
 use Rattle.fnc_core.proofs.Following.{entered-answered, entered-history, entered-last}
 use Rattle.fnc_core.specs.Cored.{Cored, IsFull}
 use Rattle.fnc_desk.specs.Entered.{LacksRoom}
@@ -53,7 +51,9 @@ use Rattle.fnc_replay.specs.Heard.{Heard, HeardSoFar, HearsOn, HasInputs}
 use Rattle.fnc_replay.specs.Polls.{GaveLine, GaveNothing, Serves, Takes}
 use Rattle.fnc_replay.specs.declared.taken.Taken.{Taken}
 use Rattle.fnc_replay.specs.Rests.{ServesLine}
-use Rattle.fnc_replay.specs.SourceAndSink.{Change, SinkTold, SourceTold}
+use Rattle.fnc_replay.specs.Read.{Gave}
+use Rattle.fnc_replay.specs.SourceAndSink.{Change, SinkTold, SourceTold, change}
+use Rattle.fnc_replay.proofs.Reading.{gave-gave, gave-none}
 use Rattle.fnc_replay.specs.Session.{Closes, EndsWriting, IsWriteFault, after_failed_flush, cored}
 use Rattle.fnc_replay.proofs.Resting.{AreOutputs, last_input-outputs, outputs-replies, outputs-starts}
 
@@ -171,50 +171,45 @@ lacks-room line lines full old new a l k = (
 
 -- what was served is what the source gave
 pub takes-line : (t : Taken) (line : Happening) (source : Change SourceTold) (old new : Cored) → is_line line ≡ true →
-    Gains source.before.given source.after.given (line ∷ []) → Serves t line old new → Takes t source old new
+    Gave source (line ∷ []) → Serves t line old new → Takes t source old new
 takes-line Taken.Served line source old new i g s =
-    record { line = line; is_line_given = i; gained = g; does = s }
+    record { line = line; is_line_given = i; gave = g; does = s }
 takes-line (Taken.Full full) line source old new i g s =
-    record { line = line; is_line_given = i; gained = g; does = s }
+    record { line = line; is_line_given = i; gave = g; does = s }
 takes-line Taken.Nothing line source old new i g s = absurd s
 takes-line Taken.Over line source old new i g s = absurd s
 takes-line Taken.Failed line source old new i g s = absurd s
 
--- nothing was gained before the first call
-pub gains-none : {A : Type 0} (told : Option (List A)) → Gains told told []
-gains-none None = tt
-gains-none (Some xs) = sym (append-nil xs)
-
 -- nothing was heard before the first poll
-pub heard-none : (told : Option (List Happening)) (v : Cored) → v.history ≡ [] → v.last ≡ 0 → HeardSoFar told told 0 v
+pub heard-none : (told : SourceTold) (v : Cored) → v.history ≡ [] → v.last ≡ 0 → HeardSoFar (change told told) 0 v
 heard-none told v h l = record {
   events = [];
-  gained = gains-none told;
+  gave = gave-none told;
   polled = refl;
   inputs = subst (λ (x : History). AreLines x []) (sym h) refl;
   last = ap last_come h ∙ sym l;
 }
 
 -- no line was there yet
-heard-nothing : (start before after : Option (List Happening)) (made : ℕ) (old new : Cored) →
-    HeardSoFar start before made old →
-    new ≡ old → Gains before after (Happening.Again ∷ []) → HeardSoFar start after (made + 1) new
-heard-nothing start before after made old new k e g =
-    subst (λ (v : Cored). HeardSoFar start after (made + 1) v) (sym e) (record {
+heard-nothing : (start : SourceTold) (source : Change SourceTold) (made : ℕ) (old new : Cored) →
+    HeardSoFar (change start source.before) made old → new ≡ old → Gave source (Happening.Again ∷ []) →
+    HeardSoFar (change start source.after) (made + 1) new
+heard-nothing start source made old new k e g =
+    subst (λ (v : Cored). HeardSoFar (change start source.after) (made + 1) v) (sym e) (record {
       events = k.events ++ Happening.Again ∷ [];
-      gained = gains-gains start before after k.events (Happening.Again ∷ []) k.gained g;
+      gave = gave-gave start source k.events (Happening.Again ∷ []) k.gave g;
       polled = let n = length-append k.events (Happening.Again ∷ []) in let m = k.polled in omega (arith, n, m);
       inputs = subst (AreLines old.history) (sym (newest-last k.events Happening.Again)) k.inputs;
       last = k.last;
     })
 
 -- a line was served
-heard-line : (start : Option (List Happening)) (source : Change SourceTold) (made : ℕ) (old new : Cored) →
-    HeardSoFar start source.before.given made old → GaveLine source (λ line. ServesLine line old new) →
-    HeardSoFar start source.after.given (made + 1) new
+heard-line : (start : SourceTold) (source : Change SourceTold) (made : ℕ) (old new : Cored) →
+    HeardSoFar (change start source.before) made old → GaveLine source (λ line. ServesLine line old new) →
+    HeardSoFar (change start source.after) (made + 1) new
 heard-line start source made old new k g = record {
   events = k.events ++ g.line ∷ [];
-  gained = gains-gains start source.before.given source.after.given k.events (g.line ∷ []) k.gained g.gained;
+  gave = gave-gave start source k.events (g.line ∷ []) k.gave g.gave;
   polled = let n = length-append k.events (g.line ∷ []) in let m = k.polled in omega (arith, n, m);
   inputs =
       subst (AreLines new.history) (sym (newest-line k.events g.line g.is_line_given))
@@ -223,45 +218,45 @@ heard-line start source made old new k g = record {
 }
 
 -- the session goes on, or a write or a flush failed
-hears-on : (r : Option Outcome) (start after : Option (List Happening)) (made : ℕ) (sink : Change SinkTold)
-    (new : Cored) → HeardSoFar start after made new → IfSome r (λ o. IsWriteFault o sink) →
-    HearsOn r start after made new
-hears-on None start after made sink new k f = k
-hears-on (Some Outcome.WriteFault) start after made sink new k f =
-    record { events = k.events; gained = k.gained; polled = inl k.polled; inputs = k.inputs }
-hears-on (Some Outcome.Finished) start after made sink new k f = absurd f
-hears-on (Some Outcome.ReadFault) start after made sink new k f = absurd f
-hears-on (Some Outcome.Budget) start after made sink new k f = absurd f
-hears-on (Some (Outcome.JournalFull full)) start after made sink new k f = absurd f
-hears-on (Some Outcome.Usage) start after made sink new k f = absurd f
-hears-on (Some Outcome.NoMemory) start after made sink new k f = absurd f
-hears-on (Some (Outcome.Unlawful index rule)) start after made sink new k f = absurd f
-hears-on (Some (Outcome.BadEntry line)) start after made sink new k f = absurd f
+hears-on : (r : Option Outcome) (source : Change SourceTold) (made : ℕ) (sink : Change SinkTold)
+    (new : Cored) → HeardSoFar source made new → IfSome r (λ o. IsWriteFault o sink) →
+    HearsOn r source made new
+hears-on None source made sink new k f = k
+hears-on (Some Outcome.WriteFault) source made sink new k f =
+    record { events = k.events; gave = k.gave; polled = inl k.polled; inputs = k.inputs }
+hears-on (Some Outcome.Finished) source made sink new k f = absurd f
+hears-on (Some Outcome.ReadFault) source made sink new k f = absurd f
+hears-on (Some Outcome.Budget) source made sink new k f = absurd f
+hears-on (Some (Outcome.JournalFull full)) source made sink new k f = absurd f
+hears-on (Some Outcome.Usage) source made sink new k f = absurd f
+hears-on (Some Outcome.NoMemory) source made sink new k f = absurd f
+hears-on (Some (Outcome.Unlawful index rule)) source made sink new k f = absurd f
+hears-on (Some (Outcome.BadEntry line)) source made sink new k f = absurd f
 
 -- after a poll that found no line
-pub heard-again : (r : Option Outcome) (start before after : Option (List Happening)) (made : ℕ)
-    (sink : Change SinkTold) (old new : Cored) → HeardSoFar start before made old → new ≡ old →
-    Gains before after (Happening.Again ∷ []) → IfSome r (λ o. IsWriteFault o sink) →
-    HearsOn r start after (made + 1) new
-heard-again r start before after made sink old new k e g f =
-    hears-on r start after (made + 1) sink new (heard-nothing start before after made old new k e g) f
+pub heard-again : (r : Option Outcome) (start : SourceTold) (source : Change SourceTold) (made : ℕ)
+    (sink : Change SinkTold) (old new : Cored) → HeardSoFar (change start source.before) made old → new ≡ old →
+    Gave source (Happening.Again ∷ []) → IfSome r (λ o. IsWriteFault o sink) →
+    HearsOn r (change start source.after) (made + 1) new
+heard-again r start source made sink old new k e g f =
+    hears-on r (change start source.after) (made + 1) sink new (heard-nothing start source made old new k e g) f
 
 -- after a poll that gave a line
-pub heard-served : (r : Option Outcome) (start : Option (List Happening)) (source : Change SourceTold) (made : ℕ)
-    (sink : Change SinkTold) (old new : Cored) → HeardSoFar start source.before.given made old →
+pub heard-served : (r : Option Outcome) (start : SourceTold) (source : Change SourceTold) (made : ℕ)
+    (sink : Change SinkTold) (old new : Cored) → HeardSoFar (change start source.before) made old →
     GaveLine source (λ line. ServesLine line old new) → IfSome r (λ o. IsWriteFault o sink) →
-    HearsOn r start source.after.given (made + 1) new
+    HearsOn r (change start source.after) (made + 1) new
 heard-served r start source made sink old new k g f =
-    hears-on r start source.after.given (made + 1) sink new (heard-line start source made old new k g) f
+    hears-on r (change start source.after) (made + 1) sink new (heard-line start source made old new k g) f
 
 -- a line found no room
-pub heard-full : (start : Option (List Happening)) (source : Change SourceTold) (made : ℕ) (full : Full)
-    (old new : Cored) → HeardSoFar start source.before.given made old →
+pub heard-full : (start : SourceTold) (source : Change SourceTold) (made : ℕ) (full : Full)
+    (old new : Cored) → HeardSoFar (change start source.before) made old →
     GaveLine source (λ line. LacksRoom line old new full) →
-    Heard (Outcome.JournalFull full) start source.after.given (made + 1) new
+    Heard (Outcome.JournalFull full) (change start source.after) (made + 1) new
 heard-full start source made full old new k g = record {
   events = k.events ++ g.line ∷ [];
-  gained = gains-gains start source.before.given source.after.given k.events (g.line ∷ []) k.gained g.gained;
+  gave = gave-gave start source k.events (g.line ∷ []) k.gave g.gave;
   polled = let n = length-append k.events (g.line ∷ []) in let m = k.polled in omega (arith, n, m);
   inputs =
       subst (λ (lines : List Happening). NewestFindsNoRoom lines new full)
@@ -270,17 +265,17 @@ heard-full start source made full old new k g = record {
 }
 
 -- the source is at its end
-pub heard-end : (o : Outcome) (start : Option (List Happening)) (source : Change SourceTold) (made : ℕ)
-    (sink : Change SinkTold) (old new : Cored) → HeardSoFar start source.before.given made old → new ≡ old →
-    GaveNothing source → EndsWriting o sink → Heard o start source.after.given (made + 1) new
+pub heard-end : (o : Outcome) (start : SourceTold) (source : Change SourceTold) (made : ℕ)
+    (sink : Change SinkTold) (old new : Cored) → HeardSoFar (change start source.before) made old → new ≡ old →
+    GaveNothing source → EndsWriting o sink → Heard o (change start source.after) (made + 1) new
 heard-end o start source made sink old new k e g f =
-    subst (λ (v : Cored). Heard o start source.after.given (made + 1) v) (sym e) (go o f)
+    subst (λ (v : Cored). Heard o (change start source.after) (made + 1) v) (sym e) (go o f)
   where
     events : List Happening
     events = k.events ++ []
 
-    gained : Gains start source.after.given events
-    gained = gains-gains start source.before.given source.after.given k.events [] k.gained g
+    gave : Gave (change start source.after) events
+    gave = gave-gave start source k.events [] k.gave g
 
     polled : length events + 1 ≡ made + 1
     polled =
@@ -291,9 +286,9 @@ heard-end o start source made sink old new k e g f =
     lines : AreLines old.history (newest_lines events)
     lines = subst (λ (es : List Happening). AreLines old.history (newest_lines es)) (sym (append-nil k.events)) k.inputs
 
-    go : (o : Outcome) → EndsWriting o sink → Heard o start source.after.given (made + 1) old
-    go Outcome.Finished f = record { events = events; gained = gained; polled = polled; inputs = lines }
-    go Outcome.WriteFault f = record { events = events; gained = gained; polled = inr polled; inputs = lines }
+    go : (o : Outcome) → EndsWriting o sink → Heard o (change start source.after) (made + 1) old
+    go Outcome.Finished f = record { events = events; gave = gave; polled = polled; inputs = lines }
+    go Outcome.WriteFault f = record { events = events; gave = gave; polled = inr polled; inputs = lines }
     go Outcome.ReadFault f = absurd f
     go Outcome.Budget f = absurd f
     go (Outcome.JournalFull full) f = absurd f
@@ -303,13 +298,13 @@ heard-end o start source made sink old new k e g f =
     go (Outcome.BadEntry line) f = absurd f
 
 -- a read failed
-pub heard-fault : (start : Option (List Happening)) (source : Change SourceTold) (made : ℕ) (old new : Cored) →
-    HeardSoFar start source.before.given made old → new ≡ old → GaveNothing source →
-    Heard Outcome.ReadFault start source.after.given (made + 1) new
+pub heard-fault : (start : SourceTold) (source : Change SourceTold) (made : ℕ) (old new : Cored) →
+    HeardSoFar (change start source.before) made old → new ≡ old → GaveNothing source →
+    Heard Outcome.ReadFault (change start source.after) (made + 1) new
 heard-fault start source made old new k e g =
-    subst (λ (v : Cored). Heard Outcome.ReadFault start source.after.given (made + 1) v) (sym e) (record {
+    subst (λ (v : Cored). Heard Outcome.ReadFault (change start source.after) (made + 1) v) (sym e) (record {
       events = k.events ++ [];
-      gained = gains-gains start source.before.given source.after.given k.events [] k.gained g;
+      gave = gave-gave start source k.events [] k.gave g;
       polled =
           let n : length (k.events ++ []) ≡ length k.events = ap length (append-nil k.events) in
           let m = k.polled in
@@ -319,39 +314,53 @@ heard-fault start source made old new k e g =
     })
 
 -- the allowed polls were made
-pub heard-budget : (start after : Option (List Happening)) (made : ℕ) (v : Cored) → HeardSoFar start after made v →
-    Heard Outcome.Budget start after made v
-heard-budget start after made v k =
-    record { events = k.events; gained = k.gained; polled = k.polled; inputs = k.inputs }
+pub heard-budget : (source : Change SourceTold) (made : ℕ) (v : Cored) → HeardSoFar source made v →
+    Heard Outcome.Budget source made v
+heard-budget source made v k =
+    record { events = k.events; gave = k.gave; polled = k.polled; inputs = k.inputs }
+
+-- nothing was read where the first write failed
+pub opened : (o : Outcome) (told : SourceTold) (sink : Change SinkTold) (v : Cored) → IsWriteFault o sink →
+    HeardSoFar (change told told) 0 v → Heard o (change told told) 0 v
+opened Outcome.WriteFault told sink v f k =
+    record { events = k.events; gave = k.gave; polled = inl k.polled; inputs = k.inputs }
+opened Outcome.Finished told sink v f k = absurd f
+opened Outcome.ReadFault told sink v f k = absurd f
+opened Outcome.Budget told sink v f k = absurd f
+opened (Outcome.JournalFull full) told sink v f k = absurd f
+opened Outcome.Usage told sink v f k = absurd f
+opened Outcome.NoMemory told sink v f k = absurd f
+opened (Outcome.Unlawful index rule) told sink v f k = absurd f
+opened (Outcome.BadEntry line) told sink v f k = absurd f
 
 -- where the last flush fails, as much was heard
-heard-failed : (o : Outcome) (before after : Option (List Happening)) (polls : ℕ) (v : Cored) →
-    Heard o before after polls v →
-    Heard (after_failed_flush o) before after polls v
-heard-failed Outcome.Finished before after polls v k =
-    record { events = k.events; gained = k.gained; polled = inr k.polled; inputs = k.inputs }
-heard-failed Outcome.Budget before after polls v k =
-    record { events = k.events; gained = k.gained; polled = inl k.polled; inputs = k.inputs }
-heard-failed Outcome.WriteFault before after polls v k = k
-heard-failed Outcome.ReadFault before after polls v k = k
-heard-failed (Outcome.JournalFull full) before after polls v k = k
-heard-failed Outcome.Usage before after polls v k = k
-heard-failed Outcome.NoMemory before after polls v k = k
-heard-failed (Outcome.Unlawful index rule) before after polls v k = k
-heard-failed (Outcome.BadEntry line) before after polls v k = k
+heard-failed : (o : Outcome) (source : Change SourceTold) (polls : ℕ) (v : Cored) →
+    Heard o source polls v →
+    Heard (after_failed_flush o) source polls v
+heard-failed Outcome.Finished source polls v k =
+    record { events = k.events; gave = k.gave; polled = inr k.polled; inputs = k.inputs }
+heard-failed Outcome.Budget source polls v k =
+    record { events = k.events; gave = k.gave; polled = inl k.polled; inputs = k.inputs }
+heard-failed Outcome.WriteFault source polls v k = k
+heard-failed Outcome.ReadFault source polls v k = k
+heard-failed (Outcome.JournalFull full) source polls v k = k
+heard-failed Outcome.Usage source polls v k = k
+heard-failed Outcome.NoMemory source polls v k = k
+heard-failed (Outcome.Unlawful index rule) source polls v k = k
+heard-failed (Outcome.BadEntry line) source polls v k = k
 
-pub heard-closed : (o closed : Outcome) (sink : Change SinkTold) (before after : Option (List Happening)) (polls : ℕ)
-    (v : Cored) → Closes o closed sink → Heard o before after polls v → Heard closed before after polls v
-heard-closed o closed sink before after polls v c k = elim c [
-  | inl same ↦ subst (λ x. Heard x before after polls v) (sym same) k
-  | inr failed ↦ subst (λ x. Heard x before after polls v) (sym failed.0) (heard-failed o before after polls v k)
+pub heard-closed : (o closed : Outcome) (sink : Change SinkTold) (source : Change SourceTold) (polls : ℕ)
+    (v : Cored) → Closes o closed sink → Heard o source polls v → Heard closed source polls v
+heard-closed o closed sink source polls v c k = elim c [
+  | inl same ↦ subst (λ x. Heard x source polls v) (sym same) k
+  | inr failed ↦ subst (λ x. Heard x source polls v) (sym failed.0) (heard-failed o source polls v k)
 ]
 
 -- what was heard is heard of the journal that is handed back
-pub heard-cored : (o : Outcome) (before after : Option (List Happening)) (polls : ℕ) (v : Cored) (j : Journaled) →
-    j.history ≡ v.history → j.limit ≡ v.limit → Heard o before after polls v → Heard o before after polls (cored j)
-heard-cored o before after polls v j e l k =
-    record { events = k.events; gained = k.gained; polled = k.polled; inputs = go o (newest_lines k.events) k.inputs }
+pub heard-cored : (o : Outcome) (source : Change SourceTold) (polls : ℕ) (v : Cored) (j : Journaled) →
+    j.history ≡ v.history → j.limit ≡ v.limit → Heard o source polls v → Heard o source polls (cored j)
+heard-cored o source polls v j e l k =
+    record { events = k.events; gave = k.gave; polled = k.polled; inputs = go o (newest_lines k.events) k.inputs }
   where
     lines : (xs : List Happening) → AreLines v.history xs → AreLines j.history xs
     lines xs a = subst (λ (h : History). AreLines h xs) (sym e) a

@@ -4,3 +4,6 @@ pub mod Resting
 pub mod Growing
 pub mod Hearing
 pub mod Writing
+mod Reading
+mod Rooms
+mod Papers

@@ -54,6 +54,8 @@ use Rattle.fnc_replay.specs.Rests.{Rests, AreStarts, StartsSome, StartsAll, Serv
 use Rattle.fnc_replay.specs.Session.{
   Closes,
   EndsBy,
+  EndsSession,
+  IsComplete,
   HasCause,
   IsServed,
   PollCounts,
@@ -330,20 +332,47 @@ full-cored v j full e l f =
 
 -- what ended a turn ended the session
 pub cause-of : (o : Outcome) (source : Change SourceTold) (sink : Change SinkTold) (from : SourceTold)
-    (start : SinkTold) (polls : PollCounts) (v : Cored) (j : Journaled) → from.faults ≤ source.before.faults →
-    start.faults ≤ sink.before.faults → j.history ≡ v.history → j.limit ≡ v.limit → EndsBy o source sink v →
-    HasCause o (change from source.after) (change start sink.after) polls j
-cause-of Outcome.Finished source sink from start polls v j r w h l e = e
-cause-of Outcome.ReadFault source sink from start polls v j r w h l e =
+    (start : SinkTold) (polls : PollCounts) (v : Cored) → from.faults ≤ source.before.faults →
+    start.faults ≤ sink.before.faults → EndsBy o source sink v →
+    EndsSession o (change from source.after) (change start sink.after) polls v
+cause-of Outcome.Finished source sink from start polls v r w e = e
+cause-of Outcome.ReadFault source sink from start polls v r w e =
     then-rose from.faults source.before.faults source.after.faults r e
-cause-of Outcome.WriteFault source sink from start polls v j r w h l e =
+cause-of Outcome.WriteFault source sink from start polls v r w e =
     then-rose start.faults sink.before.faults sink.after.faults w e
-cause-of (Outcome.JournalFull full) source sink from start polls v j r w h l e = full-cored v j full h l e
-cause-of Outcome.Budget source sink from start polls v j r w h l e = absurd e
-cause-of Outcome.Usage source sink from start polls v j r w h l e = e
-cause-of Outcome.NoMemory source sink from start polls v j r w h l e = e
-cause-of (Outcome.Unlawful index rule) source sink from start polls v j r w h l e = e
-cause-of (Outcome.BadEntry line) source sink from start polls v j r w h l e = e
+cause-of (Outcome.JournalFull full) source sink from start polls v r w e = e
+cause-of Outcome.Budget source sink from start polls v r w e = absurd e
+cause-of Outcome.Usage source sink from start polls v r w e = e
+cause-of Outcome.NoMemory source sink from start polls v r w e = e
+cause-of (Outcome.Unlawful index rule) source sink from start polls v r w e = e
+cause-of (Outcome.BadEntry line) source sink from start polls v r w e = e
+
+-- it is told of the journal that is handed back
+pub cause-cored : (o : Outcome) (source : Change SourceTold) (sink : Change SinkTold) (polls : PollCounts) (v : Cored)
+    (j : Journaled) → j.history ≡ v.history → j.limit ≡ v.limit → EndsSession o source sink polls v →
+    HasCause o source sink polls j
+cause-cored (Outcome.JournalFull full) source sink polls v j h l e = full-cored v j full h l e
+cause-cored Outcome.Finished source sink polls v j h l e = e
+cause-cored Outcome.ReadFault source sink polls v j h l e = e
+cause-cored Outcome.WriteFault source sink polls v j h l e = e
+cause-cored Outcome.Budget source sink polls v j h l e = e
+cause-cored Outcome.Usage source sink polls v j h l e = e
+cause-cored Outcome.NoMemory source sink polls v j h l e = e
+cause-cored (Outcome.Unlawful index rule) source sink polls v j h l e = e
+cause-cored (Outcome.BadEntry line) source sink polls v j h l e = e
+
+-- where no fault was the cause, the session ended of itself
+pub complete-of : (o : Outcome) (source : Change SourceTold) (sink : Change SinkTold) (polls : PollCounts)
+    (j : Journaled) → HasCause o source sink polls j → IsComplete o source sink polls j
+complete-of Outcome.Finished source sink polls j e = λ reads writes. e
+complete-of Outcome.ReadFault source sink polls j e = λ reads writes. absurd (reads e)
+complete-of Outcome.WriteFault source sink polls j e = λ reads writes. absurd (writes e)
+complete-of Outcome.Budget source sink polls j e = λ reads writes. e
+complete-of (Outcome.JournalFull full) source sink polls j e = λ reads writes. e
+complete-of Outcome.Usage source sink polls j e = absurd e
+complete-of Outcome.NoMemory source sink polls j e = absurd e
+complete-of (Outcome.Unlawful index rule) source sink polls j e = absurd e
+complete-of (Outcome.BadEntry line) source sink polls j e = absurd e
 
 -- and ends it still where the last flush worked, or failed after another cause
 cause-later : (o : Outcome) (source : Change SourceTold) (start before after : SinkTold) (polls : PollCounts)

@@ -2,8 +2,9 @@
 use Rattle.std.specs.Prelude.{ℕ, ◌≡◌, ◌+◌, ◌⊎◌, List, length, Option, Some, None}
 use Rattle.fnc_journal.specs.declared.outcome.Outcome.{Outcome}
 use Rattle.fnc_outside.specs.Events.{Happening}
-use Rattle.fnc_outside.specs.Told.{Gains}
 use Rattle.fnc_core.specs.Cored.{Cored}
+use Rattle.fnc_replay.specs.Read.{Gave}
+use Rattle.fnc_replay.specs.SourceAndSink.{Change, SourceTold}
 use Rattle.fnc_desk.specs.Lines.{AreLines, NewestFindsNoRoom, last_come, newest_lines}
 
 -- Each poll gave an event, but for a last one that found the source at its end or failed. A write fails after either.
@@ -20,21 +21,21 @@ HasInputs _ lines v = AreLines v.history lines
 
 -- The events that the source gave in a session, where it tells them: as many as were polled, and each line among them
 -- gave its input entry.
-pub record Heard (outcome : Outcome) (before after : Option (List Happening)) (polls : ℕ) (v : Cored) : Type 0 where
+pub record Heard (outcome : Outcome) (source : Change SourceTold) (polls : ℕ) (v : Cored) : Type 0 where
   pub events : List Happening
-  pub gained : Gains before after events
+  pub gave : Gave source events
   pub polled : HasPolled outcome (length events) polls
   pub inputs : HasInputs outcome (newest_lines events) v
 
 -- between two polls: each poll gave an event, and the last moment is that of the last input
-pub record HeardSoFar (before after : Option (List Happening)) (polls : ℕ) (v : Cored) : Type 0 where
+pub record HeardSoFar (source : Change SourceTold) (polls : ℕ) (v : Cored) : Type 0 where
   pub events : List Happening
-  pub gained : Gains before after events
+  pub gave : Gave source events
   pub polled : length events ≡ polls
   pub inputs : AreLines v.history (newest_lines events)
   pub last : last_come v.history ≡ v.last
 
 -- the same after a turn, which ends the session or not
-abbrev pub HearsOn : Option Outcome → Option (List Happening) → Option (List Happening) → ℕ → Cored → Type 0
-HearsOn None before after polls v = HeardSoFar before after polls v
-HearsOn (Some outcome) before after polls v = Heard outcome before after polls v
+abbrev pub HearsOn : Option Outcome → Change SourceTold → ℕ → Cored → Type 0
+HearsOn None source polls v = HeardSoFar source polls v
+HearsOn (Some outcome) source polls v = Heard outcome source polls v

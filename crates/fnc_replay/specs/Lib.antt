@@ -1,4 +1,6 @@
 pub mod SourceAndSink
+pub mod Read
+pub mod Room
 pub mod Rests
 pub mod Session
 pub mod Heard

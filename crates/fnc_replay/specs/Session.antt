@@ -2,7 +2,7 @@
 use Rattle.std.specs.Prelude.{ℕ, List, [], ◌++◌, ◌≡◌, ◌≤◌, ◌⊎◌, true, Option, Some, None}
 use Rattle.fnc_journal.specs.declared.outcome.Outcome.{Outcome}
 use Rattle.fnc_journal.specs.History.{History, Journaled}
-use Rattle.fnc_journal.specs.Line.{answers_text, end_line}
+use Rattle.fnc_journal.specs.Line.{end_line}
 use Rattle.fnc_journal.specs.Lawful.{Lawful, Calm, last_moment}
 use Rattle.fnc_journal.specs.Operations.{settled}
 use Rattle.fnc_journal.specs.Driven.{Driven}
@@ -10,6 +10,8 @@ use Rattle.fnc_outside.specs.Events.{Happening}
 use Rattle.fnc_outside.specs.Faults.{Rose}
 use Rattle.fnc_outside.specs.Told.{Gains}
 use Rattle.fnc_outside.specs.Writes.{HoldsPart}
+use Rattle.fnc_journal_text.specs.declared.form.Form.{Form}
+use Rattle.fnc_journal_text.specs.Paper.{text}
 use Rattle.fnc_core.specs.Cored.{Cored, IsFull}
 use Rattle.fnc_replay.specs.Rests.{Rests}
 use Rattle.fnc_replay.specs.SourceAndSink.{Change, SinkTold, SourceTold}
@@ -30,28 +32,36 @@ HoldsFront sink text = HoldsPart sink.before.held sink.after.held text
 abbrev pub SinkFaulted : Change SinkTold → Type 0
 SinkFaulted sink = Rose sink.before.faults sink.after.faults
 
+-- what is written after the text of a journal: the answers end with the end line
+abbrev pub last_line : Form → History → List ℕ
+last_line Form.Answers h = end_line h
+last_line Form.Journal h = []
+
+-- all that a session writes, where it comes to the end of its source
+abbrev pub whole_text : Form → History → List ℕ
+whole_text form h = text h form ++ last_line form h
+
 -- What the sink gained, where it tells what it holds, and how much of it is still to be sent on. A session that
--- finished wrote the text and the end line; one whose write or flush failed left a part from the front of these; any
--- other the text alone, or a part from the front of it where a write or a flush failed. What did not fail was sent on.
-abbrev pub Wrote : Outcome → Change SinkTold → History → Type 0
-Wrote Outcome.Finished sink h = SentOn sink (answers_text h ++ end_line h)
-Wrote Outcome.WriteFault sink h = HoldsFront sink (answers_text h ++ end_line h)
-Wrote Outcome.Budget sink h = SentOn sink (answers_text h)
-Wrote Outcome.ReadFault sink h =
-    SentOn sink (answers_text h) ⊎ (SinkFaulted sink × HoldsFront sink (answers_text h))
-Wrote (Outcome.JournalFull full) sink h =
-    SentOn sink (answers_text h) ⊎ (SinkFaulted sink × HoldsFront sink (answers_text h))
-Wrote _ sink h = ⊥
+-- finished wrote the whole text; one whose write or flush failed left a part from the front of it; any other the text
+-- of the journal, or a part from the front of it where a write or a flush failed. What did not fail was sent on.
+abbrev pub Wrote : Outcome → Form → Change SinkTold → History → Type 0
+Wrote Outcome.Finished form sink h = SentOn sink (whole_text form h)
+Wrote Outcome.WriteFault form sink h = HoldsFront sink (whole_text form h)
+Wrote Outcome.Budget form sink h = SentOn sink (text h form)
+Wrote Outcome.ReadFault form sink h = SentOn sink (text h form) ⊎ (SinkFaulted sink × HoldsFront sink (text h form))
+Wrote (Outcome.JournalFull full) form sink h =
+    SentOn sink (text h form) ⊎ (SinkFaulted sink × HoldsFront sink (text h form))
+Wrote _ form sink h = ⊥
 
 -- the same before the last flush, where what was written may still wait
-abbrev pub Printed : Outcome → Change SinkTold → History → Type 0
-Printed Outcome.Finished sink h = Holds sink (answers_text h ++ end_line h)
-Printed Outcome.WriteFault sink h = HoldsFront sink (answers_text h ++ end_line h)
-Printed Outcome.Budget sink h = Holds sink (answers_text h)
-Printed Outcome.ReadFault sink h = Holds sink (answers_text h)
-Printed (Outcome.JournalFull full) sink h =
-    Holds sink (answers_text h) ⊎ (SinkFaulted sink × HoldsFront sink (answers_text h))
-Printed _ sink h = ⊥
+abbrev pub Printed : Outcome → Form → Change SinkTold → History → Type 0
+Printed Outcome.Finished form sink h = Holds sink (whole_text form h)
+Printed Outcome.WriteFault form sink h = HoldsFront sink (whole_text form h)
+Printed Outcome.Budget form sink h = Holds sink (text h form)
+Printed Outcome.ReadFault form sink h = Holds sink (text h form)
+Printed (Outcome.JournalFull full) form sink h =
+    Holds sink (text h form) ⊎ (SinkFaulted sink × HoldsFront sink (text h form))
+Printed _ form sink h = ⊥
 
 -- The outcome where the last flush fails. A session that nothing had ended before ends by that; any other keeps its
 -- first cause.
@@ -95,13 +105,13 @@ EndsWriting Outcome.WriteFault sink = SinkFaulted sink
 EndsWriting _ sink = ⊥
 
 -- the text so far is held, and the count of faults did not fall
-abbrev pub HoldsSoFar : Change SinkTold → History → Type 0
-HoldsSoFar sink h = Holds sink (answers_text h) × (sink.before.faults ≤ sink.after.faults)
+abbrev pub HoldsSoFar : Form → Change SinkTold → History → Type 0
+HoldsSoFar form sink h = Holds sink (text h form) × (sink.before.faults ≤ sink.after.faults)
 
 -- what the sink gained so far, or at the end before the last flush
-abbrev pub Puts : Option Outcome → Change SinkTold → History → Type 0
-Puts None sink h = HoldsSoFar sink h
-Puts (Some outcome) sink h = Printed outcome sink h
+abbrev pub Puts : Option Outcome → Form → Change SinkTold → History → Type 0
+Puts None form sink h = HoldsSoFar form sink h
+Puts (Some outcome) form sink h = Printed outcome form sink h
 
 -- a write that fails
 abbrev pub IsWriteFault : Outcome → Change SinkTold → Type 0
@@ -122,7 +132,24 @@ pub record PollCounts : Type 0 where
   pub made : ℕ
   pub allowed : ℕ
 
--- Why a session ended, which may be that the polls that it was allowed were made.
+-- why a session ended, which may be that the polls that it was allowed were made
+abbrev pub EndsSession : Outcome → Change SourceTold → Change SinkTold → PollCounts → Cored → Type 0
+EndsSession Outcome.Budget source sink polls v = polls.made ≡ polls.allowed
+EndsSession outcome source sink polls v = EndsBy outcome source sink v
+
+-- the same of the journal that is handed back
 abbrev pub HasCause : Outcome → Change SourceTold → Change SinkTold → PollCounts → Journaled → Type 0
-HasCause Outcome.Budget source sink polls j = polls.made ≡ polls.allowed
-HasCause outcome source sink polls j = EndsBy outcome source sink (cored j)
+HasCause outcome source sink polls j = EndsSession outcome source sink polls (cored j)
+
+-- How a session ends where neither a read nor a write failed: at the end of its source, at the polls that it was
+-- allowed, or at a line for which the journal has no room.
+abbrev pub EndsOfItself : Outcome → Change SourceTold → PollCounts → Journaled → Type 0
+EndsOfItself Outcome.Finished source polls j = IsOver source.after.left
+EndsOfItself Outcome.Budget source polls j = polls.made ≡ polls.allowed
+EndsOfItself (Outcome.JournalFull full) source polls j = IsFull (cored j) full.need full
+EndsOfItself _ source polls j = ⊥
+
+-- where no count of faults rose, a session ends of itself
+abbrev pub IsComplete : Outcome → Change SourceTold → Change SinkTold → PollCounts → Journaled → Type 0
+IsComplete outcome source sink polls j =
+    (SourceFaulted source → ⊥) → (SinkFaulted sink → ⊥) → EndsOfItself outcome source polls j

@@ -2,9 +2,11 @@
 // journal go to a sink.
 #![tactic(auto)]
 
+mod printed;
 mod session;
 mod starts;
 mod taken;
 mod turn;
+mod turns;
 
 pub use session::{Replayed, replay};

@@ -1,6 +1,7 @@
 // What one poll of the source does to the desk.
 
 ghost use Rattle.std.specs.Prelude.{◌≤◌, ◌≡◌, ℕ, []};
+ghost use Rattle.fnc_journal.specs.declared.limits.TheConstants.{LONGEST_LINE};
 ghost use Rattle.fnc_outside.specs.Events.{Happening};
 ghost use Rattle.fnc_replay.specs.Polls.{Serves, Takes};
 ghost use Rattle.fnc_replay.specs.SourceAndSink.{change, source_told};
@@ -49,11 +50,13 @@ fn serve_long(desk: &mut Desk) -> Taken
 
 /// Polls the source once, and serves what it gave.
 pub(crate) fn take<S: Source>(source: &mut S, desk: &mut Desk, line: &mut LineBuf) -> Taken
-    requires { line.old.bytes ≡ [] }
+    requires holds_none { line.old.bytes ≡ [] }
+    requires longest { line.old.size ≡ LONGEST_LINE }
     ensures takes { let of_source = source_told S.given S.left S.faults in
         Takes result (change (of_source source.old) (of_source source.new)) desk.old desk.new }
     ensures reads { S.faults source.old ≤ S.faults source.new }
     ensures empty { line.new.bytes ≡ [] }
+    ensures size { line.new.size ≡ line.old.size }
 {
     match source.poll(line) {
         Polled::Line => {

@@ -1,95 +1,78 @@
 // What is printed in pieces, and of a journal.
 
 use fnc_desk::{print_end, print_from};
-use fnc_journal::{Cause, Entry, Event, Journal, Refusal};
-use fnc_outside::{MemorySink, SinkFailed, Torn};
+use fnc_journal::limits::LEAST_JOURNAL;
+use fnc_journal::{Journal, NoMemory};
+use fnc_journal_reader::{EntryFault, read_entry};
+use fnc_judge::{Verdict, judge};
+use fnc_outside::{MemorySink, Torn};
 use fnc_printing::{Piece, print_pieces};
-use std::test::Fail;
+use fnc_rows::Row;
+use std::alloc::Global;
+use std::str;
 
-#[test]
-fn pieces_are_printed_in_order(rt: HostRuntime) -> Result<(), Fail> {
-    let rows: [([Piece<'_>; 3], &[u8]); 5] = [
-        (
-            [Piece::Word("start "), Piece::Number(0), Piece::Word(" ")],
-            b"start 0 ",
-        ),
-        (
-            [Piece::Name("a b/c%"), Piece::Word("\n"), Piece::Name("")],
-            b"a%20b%2Fc%25\n",
-        ),
-        (
-            [
-                Piece::Name("AZaz09-._~"),
-                Piece::Name("@[`{:/"),
-                Piece::Word(""),
-            ],
-            b"AZaz09-._~%40%5B%60%7B%3A%2F",
-        ),
-        (
-            [
-                Piece::Name("\u{e9}"),
-                Piece::Number(4_294_967_295),
-                Piece::Name("\u{1}\u{7f}"),
-            ],
-            b"%C3%A94294967295%01%7F",
-        ),
-        (
-            [
-                Piece::Signed(-1_000_000),
-                Piece::Signed(0),
-                Piece::Number(18_446_744_073_709_551_615),
-            ],
-            b"-1000000018446744073709551615",
-        ),
-    ];
-    for (pieces, text) in rows {
-        let mut sink = MemorySink::new(rt.alloc(), 64, &[])?;
-        assert_eq!(rt; print_pieces(&pieces, &mut sink), Ok(()));
-        assert_eq!(rt; sink.bytes(), text);
+/// The piece that a word of a row names.
+fn piece(word: &str) -> Piece<'_> {
+    let (kind, text) = word.split_once(' ').unwrap_or(("", ""));
+    match kind {
+        "number" => Piece::Number(text.parse::<u64>().unwrap_or(0)),
+        "signed" => Piece::Signed(text.parse::<i32>().unwrap_or(0)),
+        "name" => Piece::Name(text),
+        _ => Piece::Word(text),
     }
-    Ok(())
 }
 
-#[test]
-fn a_failed_write_leaves_the_front_of_a_line(rt: HostRuntime) -> Result<(), Fail> {
-    let torn = [Torn { write: 2, kept: 2 }];
-    let mut sink = MemorySink::torn(rt.alloc(), 64, &torn)?;
-    let pieces = [
-        Piece::Word("start "),
-        Piece::Number(12),
-        Piece::Name("abc"),
-        Piece::Word("\n"),
-    ];
-    assert_eq!(rt; print_pieces(&pieces, &mut sink), Err(SinkFailed));
-    assert_eq!(rt; sink.bytes(), b"start 12ab".as_slice());
-    Ok(())
+/// What is printed of the pieces of a row from a place on, into a sink that may fail.
+fn pieces(alloc: Global, row: &Row, from: usize, torn: &[Torn]) -> Result<String, NoMemory> {
+    let mut sink = MemorySink::torn(alloc, 64, torn)?;
+    let mut pieces = Vec::new(alloc);
+    for place in from..row.len() {
+        pieces.push(piece(row.text(place)))?;
+    }
+    let done = print_pieces(pieces.as_slice(), &mut sink);
+    let text = str::from_utf8(sink.bytes()).unwrap_or("");
+    Ok(format!(in alloc; "{done:?} {text}")?)
 }
 
-#[test]
-fn a_journal_is_printed(rt: HostRuntime) -> Result<(), Fail> {
-    let mut journal = Journal::with_limit(rt.alloc(), 16_384)?;
-    journal.push(Entry {
-        moment: 0,
-        event: Event::Refused(Refusal {
-            line: 1,
-            cause: Cause::TooLong,
-        }),
-    });
-    journal.push(Entry {
-        moment: 5,
-        event: Event::Pass,
-    });
-    journal.push(Entry {
-        moment: 5,
-        event: Event::Refused(Refusal {
-            line: 30,
-            cause: Cause::NotUtf8,
-        }),
-    });
-    let mut sink = MemorySink::new(rt.alloc(), 128, &[])?;
-    assert_eq!(rt; print_from(&journal, 0, &mut sink), Ok(()));
-    assert_eq!(rt; print_end(&journal, &mut sink), Ok(()));
-    let text = b"refused 1 too-long\nrefused 30 not-utf8\nend asked 0 answered 0 alive 0\n";
-    assert_eq!(rt; sink.bytes(), text.as_slice());
-    Ok(())
+/// The journal that the words of a row spell.
+fn journal(alloc: Global, row: &Row) -> Result<Journal, EntryFault> {
+    let mut journal = Journal::with_limit(alloc, LEAST_JOURNAL)?;
+    for place in 1..row.len() {
+        let entry = read_entry(alloc, row.bytes(place))?;
+        if journal.len() < journal.limit() {
+            journal.push(entry);
+        }
+    }
+    Ok(journal)
+}
+
+/// What is printed of a journal, and its end line.
+fn lines(alloc: Global, journal: &Journal) -> Result<String, NoMemory> {
+    let mut sink = MemorySink::new(alloc, 128, &[])?;
+    match judge(journal) {
+        Verdict::Lawful => {
+            let done = print_from(journal, 0, &mut sink);
+            let end = print_end(journal, &mut sink);
+            let text = str::from_utf8(sink.bytes()).unwrap_or("");
+            Ok(format!(in alloc; "{done:?} {end:?} {text}")?)
+        }
+        verdict => Ok(format!(in alloc; "{verdict:?}")?),
+    }
+}
+
+/// What is said of a row: `pieces|PIECE|..`, `torn pieces|WRITE|KEPT|PIECE|..` where a write fails and keeps so many
+/// bytes, and `journal|ENTRY|..`.
+pub(crate) fn say(alloc: Global, row: &Row) -> Result<String, NoMemory> {
+    match row.text(0) {
+        "pieces" => pieces(alloc, row, 1, &[]),
+        "torn pieces" => {
+            let (write, kept) = (row.number32(1), row.number32(2));
+            pieces(alloc, row, 3, &[Torn { write, kept }])
+        }
+        "journal" => match journal(alloc, row) {
+            Ok(journal) => lines(alloc, &journal),
+            Err(fault) => Ok(format!(in alloc; "{fault}")?),
+        },
+        _ => Ok(String::from_str(alloc, "no such row")?),
+    }
 }

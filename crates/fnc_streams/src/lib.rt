@@ -4,8 +4,6 @@
 
 mod stream_sink;
 mod stream_source;
-#[cfg(test)]
-mod tests;
 
 pub use stream_sink::StreamSink;
 pub use stream_source::StreamSource;

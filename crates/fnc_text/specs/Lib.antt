@@ -2,4 +2,3 @@ pub mod Digits
 pub mod Durations
 pub mod Words
 pub mod Escapes
-pub mod Names

@@ -2,7 +2,7 @@
 
 ghost use Rattle.std.specs.Prelude.{◌≡◌};
 ghost use Rattle.std.specs.List.{list_all};
-ghost use Rattle.fnc_text.specs.Names.{is_name, is_name_byte};
+ghost use Rattle.fnc_journal.specs.Names.{is_name, is_name_byte};
 
 use fnc_journal::limits::LONGEST_NAME;
 

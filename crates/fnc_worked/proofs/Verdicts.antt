@@ -57,7 +57,8 @@ never false p q = cc
 no_some : (f : Option Fault) (g : Fault) → f ≡ None → f ≡ Some g → ⊥
 no_some f g p q = cc
 
-pub replay : (s : Session) → fault (journal s.entries) ≡ None → is_calm (journal s.entries) ≡ true → is_driven (journal s.entries) ≡ true →
+pub replay : (s : Session) → fault (journal s.entries) ≡ None → is_calm (journal s.entries) ≡ true →
+    is_driven (journal s.entries) ≡ true →
     answers_text (journal s.entries) ++ end_line (journal s.entries) ≡ lines s.output → IsReplay s
 replay s f c d o = record {
   no_fault = f;
@@ -67,17 +68,20 @@ replay s f c d o = record {
   output = o;
 }
 
-pub breaks : (index : ℕ) (rule : Rule) (entries : List Entry) → fault (journal entries) ≡ Some (record { index = index; rule = rule }) → Breaks index rule entries
+pub breaks : (index : ℕ) (rule : Rule) (entries : List Entry) →
+    fault (journal entries) ≡ Some (record { index = index; rule = rule }) → Breaks index rule entries
 breaks index rule entries f = record { first = f; unlawful = λ l. no_some _ _ (no_fault-lawful (journal entries) l) f }
 
-pub idle : (entries : List Entry) → fault (journal entries) ≡ None → is_calm (journal entries) ≡ true → is_driven (journal entries) ≡ false → IsIdle entries
+pub idle : (entries : List Entry) → fault (journal entries) ≡ None → is_calm (journal entries) ≡ true →
+    is_driven (journal entries) ≡ false → IsIdle entries
 idle entries f c d = record {
   lawful = lawful-no_fault (journal entries) f;
   calm = calm (journal entries) c;
   not_driven = λ g. never _ (is_driven-of (journal entries) g) d;
 }
 
-pub restless : (entries : List Entry) → fault (journal entries) ≡ None → is_driven (journal entries) ≡ true → is_calm (journal entries) ≡ false → IsRestless entries
+pub restless : (entries : List Entry) → fault (journal entries) ≡ None → is_driven (journal entries) ≡ true →
+    is_calm (journal entries) ≡ false → IsRestless entries
 restless entries f d c = record {
   lawful = lawful-no_fault (journal entries) f;
   driven = driven (journal entries) d;

@@ -17,15 +17,9 @@ mod limits;
 mod many_requests;
 mod one_device;
 mod owed;
-#[cfg(test)]
-mod printed;
-#[cfg(test)]
-mod pushed;
 mod queries;
 mod refusals;
 mod split_reboots;
-#[cfg(test)]
-mod tests;
 mod topology;
 mod unserved;
 

@@ -4,7 +4,7 @@ use borrow.Author.Tests.{eqb-true}
 use Rattle.fnc_journal.specs.declared.event.Event.{Event}
 use Rattle.fnc_journal.specs.Found.{devices}
 use Rattle.fnc_journal.specs.Lawful.{in_order}
-use Rattle.fnc_core.specs.Known.{LeavesFewNames}
+use Rattle.fnc_journal.specs.Known.{LeavesFewNames}
 use Rattle.fnc_driver.proofs.driver.change_of.Goals as goal
 
 pub returns-in-Device-clause-few : goal.returns-in-Device-clause-few

@@ -4,7 +4,7 @@ use Rattle.std.proofs.lemmas.Bool.{ltb-true}
 use Rattle.fnc_journal.specs.declared.event.Event.{Event}
 use Rattle.fnc_journal.specs.declared.limits.TheConstants.{MOST_DEVICES}
 use Rattle.fnc_journal.specs.Lawful.{in_order}
-use Rattle.fnc_core.specs.Known.{LeavesFewNames}
+use Rattle.fnc_journal.specs.Known.{LeavesFewNames}
 use Rattle.fnc_core.proofs.KnownFew.{few-undevice}
 use Rattle.fnc_driver.proofs.driver.leaves_few_names.Goals as goal
 use Rattle.fnc_driver.proofs.FewNames.{few-first, on-true, undevice}

@@ -1,5 +1,5 @@
 -- All of the text was printed, or a write failed.
-use Rattle.fnc_journal.specs.Line.{answers_text}
+use Rattle.fnc_journal_text.specs.Paper.{text}
 use Rattle.fnc_replay.specs.SourceAndSink.{sink_told}
 use Rattle.fnc_replay.proofs.Writing.{printed-full}
 use Rattle.fnc_replay.proofs.turn.write_full.Goals as goal
@@ -7,6 +7,6 @@ use Rattle.fnc_replay.proofs.turn.write_full.Goals as goal
 pub returns-clause-text : goal.returns-clause-text
 returns-clause-text g c = λ start held.
     let of_sink = sink_told g.K.Sink.held g.K.Sink.unsent g.K.Sink.faults in
-    printed-full c.print_from.result start (of_sink c.args.sink.now) (of_sink c.print_from.new.sink)
-    (answers_text c.args.journal.now.history) held.1 (c.print_from.ensures.ok start.held held.0)
-    (c.print_from.ensures.err start.held held.0) c.print_from.ensures.cause
+    printed-full c.print_more.result start (of_sink c.args.sink.now) (of_sink c.print_more.new.sink)
+    (text c.args.journal.now.history c.args.form) held.1 (c.print_more.ensures.ok start.held held.0)
+    (c.print_more.ensures.err start.held held.0) c.print_more.ensures.cause

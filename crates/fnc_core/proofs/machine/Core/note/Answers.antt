@@ -5,7 +5,7 @@ use Rattle.fnc_journal.specs.Found.{devices}
 use Rattle.fnc_journal.specs.History.{History}
 use Rattle.fnc_journal.specs.Lawful.{in_order}
 use Rattle.fnc_core.specs.Cored.{Enters, event_of}
-use Rattle.fnc_core.specs.Known.{LeavesFewNames}
+use Rattle.fnc_journal.specs.Known.{LeavesFewNames}
 use Rattle.fnc_core.proofs.Following.{follows-enters, same-event}
 use Rattle.fnc_core.proofs.KnownFew.{leaves-replied}
 use Rattle.fnc_core.proofs.Replied.{devices-replied, in_order-replied}

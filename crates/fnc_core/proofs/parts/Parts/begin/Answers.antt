@@ -12,11 +12,11 @@ use Rattle.fnc_ops.specs.FreshRecords.{begun_by}
 use Rattle.fnc_ops.specs.OpsRecords.{OthersWait}
 use Rattle.fnc_ops.specs.Stands.{StandsFor, AreAt, ask_entry, begun_request}
 use Rattle.fnc_queue.specs.Items.{Changes}
-use Rattle.fnc_core.specs.Between.{Rests, RoomFor, IsPlanOf, need_of, operation_asked, entry, request_of}
+use Rattle.fnc_core.specs.Between.{Rests, RoomFor, IsPlanOf, need_of, tries_with, operation_asked, entry, request_of}
 use Rattle.fnc_core.specs.Parted.{Parted}
 use Rattle.fnc_core.specs.Wanted.{wanted, one_if_held}
 use Rattle.fnc_core.proofs.AskedParts.{between-begun}
-use Rattle.fnc_core.proofs.KnownFew.{planned-candidates, planned-levels, planned-devices}
+use Rattle.fnc_core.proofs.KnownFew.{planned-candidates, planned-devices}
 use Rattle.fnc_core.proofs.parts.Parts.begin.Goals as goal
 
 pub begin-requires-clause-bounded : goal.begin-requires-clause-bounded
@@ -29,17 +29,18 @@ begin-requires-clause-few_candidates c =
     c.requires.rests.between.few
     c.requires.planned
 
-pub begin-requires-clause-few_levels : goal.begin-requires-clause-few_levels
-begin-requires-clause-few_levels c =
-    planned-levels c.args.self.now.history c.args.moment c.args.ask.kind c.args.ask.target c.args.plan
-    c.requires.rests.between.few
-    c.requires.planned
-
 pub begin-requires-clause-few_devices : goal.begin-requires-clause-few_devices
 begin-requires-clause-few_devices c =
     planned-devices c.args.self.now.history c.args.moment c.args.ask.kind c.args.ask.target c.args.plan
     c.requires.rests.between.few
     c.requires.planned
+
+pub begin-requires-clause-tries : goal.begin-requires-clause-tries
+begin-requires-clause-tries c =
+    subst (λ (o : Begun). c.args.tries ≡ tries_of
+    (all_slots (begun_by o c.args.plan c.self.inside.journal.history))) (sym c.in_ok-operation.ensures)
+    (subst (λ (v : Parted). c.args.tries ≡ tries_with v.history c.args.moment c.args.req c.args.ask c.args.plan)
+    (sym c.self.view_is) c.requires.tries)
 
 pub returns-clause-between : goal.returns-clause-between
 returns-clause-between c =

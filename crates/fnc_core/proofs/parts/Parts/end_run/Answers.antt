@@ -72,4 +72,4 @@ returns-clause-between c =
     (c.ended-2.ensures.after ∙ ap (λ n. ended n p.queue) c.lane.ensures)
     (subst (λ n. CountsOneMore n c.ended-2.new.self.alive p.queue.alive) c.lane.ensures c.ended-2.ensures.counts)
     c.requeue.ensures.changes c.requeue.ensures.alive c.requeue.ensures.places c.ended.ensures.stands c.ended.ensures.at
-    (c.ended.ensures.others c.args.start was)
+    c.ended.ensures.others

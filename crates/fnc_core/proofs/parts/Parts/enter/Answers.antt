@@ -1,7 +1,7 @@
 -- The parts rest after an input that touches no operation.
 use Rattle.std.proofs.Common.{refl, subst, sym, ◌≡◌, true}
 use Rattle.fnc_core.specs.Between.{Rests, RoomFor}
-use Rattle.fnc_core.specs.Known.{LeavesFewNames}
+use Rattle.fnc_journal.specs.Known.{LeavesFewNames}
 use Rattle.fnc_core.specs.Parted.{Parted}
 use Rattle.fnc_journal.specs.Lawful.{in_order}
 use Rattle.fnc_core.proofs.Entered.{rests-entered}

@@ -15,8 +15,8 @@ returns-clause-ok c client =
     (begun_request c.args.operation client c.args.plan.scope) ∷ c.args.journal.now.history))
     (sym e)
     (stands-begun c.args.operation c.args.plan c.args.journal.now.history client c.requires.lawful c.requires.number
-    c.requires.planned c.requires.bounded c.args.self.now c.requires.stands c.requires.few_candidates
-    c.requires.few_levels c.requires.few_devices))
+    c.requires.planned c.requires.bounded c.args.tries c.requires.tries c.requires.few_candidates c.args.self.now
+    c.requires.stands))
     (subst (λ (k : KeptOperation). OnOk c.kept_begun.result (c.kept_begun.new.self ≡ record {
       operations =
           c.args.self.now.operations ++ k ∷ [];
@@ -26,8 +26,8 @@ returns-clause-ok c client =
 
 pub returns-clause-others : goal.returns-clause-others
 returns-clause-others c =
-    others-wait-ever c.args.operation c.args.plan c.args.journal.now.history c.args.self.now c.kept_begun.new.self
-    c.kept_begun.result
+    others-wait-ever c.args.operation c.args.plan c.args.journal.now.history c.args.tries c.args.self.now
+    c.kept_begun.new.self c.kept_begun.result
     (subst (λ (k : KeptOperation). OnOk c.kept_begun.result (c.kept_begun.new.self ≡ record {
       operations =
           c.args.self.now.operations ++ k ∷ [];

@@ -7,7 +7,9 @@ use Rattle.fnc_queue.proofs.FirstLemmas.{borrowed-some, borrowed-first, borrowed
 use Rattle.fnc_queue.proofs.queue.Queue.first.Goals as goal
 
 pub returns-clause-item : goal.returns-clause-item
-returns-clause-item c = rw (← c.self.view_is) (c.first_among.ensures ∙ ap₂ (first_among c.args.moment) c.deref-2.ensures.value c.deref.ensures.value)
+returns-clause-item c =
+    rw (← c.self.view_is) (c.first_among.ensures
+    ∙ ap₂ (first_among c.args.moment) c.deref-2.ensures.value c.deref.ensures.value)
 
 pub returns-clause-some : goal.returns-clause-some
 returns-clause-some c = borrowed-some c.args.moment c.args.self.now c.first_among.result (returns-clause-item c)
@@ -17,4 +19,5 @@ returns-clause-least c = borrowed-first c.args.moment c.args.self.now c.first_am
 
 pub returns-clause-own : goal.returns-clause-own
 returns-clause-own c =
-    borrowed-own c.args.moment c.args.self.now c.first_among.result (subst (λ (q : Queued). InOrder q.waiting) c.self.view_is c.self.invariant.3) (returns-clause-item c)
+    borrowed-own c.args.moment c.args.self.now c.first_among.result
+    (subst (λ (q : Queued). InOrder q.waiting) c.self.view_is c.self.invariant.3) (returns-clause-item c)

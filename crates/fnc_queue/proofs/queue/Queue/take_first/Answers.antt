@@ -9,9 +9,11 @@ pub invariant_of-self : goal.invariant_of-self
 invariant_of-self c =
     let first : IsFirst c.args.moment c.args.self.now c.in_ok-item.field-0.now = c.in_ok-item.ensures.least in
     let waits : is_waiting c.in_ok-item.field-0.now.req.0 c.self.inside.waiting.items ≡ true =
-    ap (λ q. is_waiting c.in_ok-item.field-0.now.req.0 q.waiting) c.self.view_is ∙ contained-waits c.in_ok-item.field-0.now c.args.self.now.waiting first.waits in
+    ap (λ q. is_waiting c.in_ok-item.field-0.now.req.0 q.waiting) c.self.view_is
+    ∙ contained-waits c.in_ok-item.field-0.now c.args.self.now.waiting first.waits in
     let gone : vec_len c.remove.new.items + 1 ≡ vec_len c.self.inside.waiting =
-    subst (λ (found : Bool). cond found (vec_len c.remove.new.items + 1) (vec_len c.remove.new.items) ≡ vec_len c.self.inside.waiting) (c.remove.ensures.found ∙ waits) c.remove.ensures.len in
+    subst (λ (found : Bool). cond found (vec_len c.remove.new.items + 1) (vec_len c.remove.new.items)
+    ≡ vec_len c.self.inside.waiting) (c.remove.ensures.found ∙ waits) c.remove.ensures.len in
     let room = c.self.invariant in (
       omega (arith, gone, room, c.remove.ensures.capacity, c.insert.ensures.len, c.insert.ensures.capacity),
       omega (arith, gone, room, c.remove.ensures.capacity, c.insert.ensures.len, c.insert.ensures.capacity),

@@ -1,2 +1,0 @@
--- Proved here: when the words of a command line are one word.
-pub mod Words

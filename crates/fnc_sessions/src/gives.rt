@@ -1,0 +1,50 @@
+// What sources give, poll by poll.
+
+use crate::reader::Pieces;
+use crate::shown::shown;
+use fnc_journal::NoMemory;
+use fnc_outside::{LineBuf, MemorySource, Polled, Source};
+use fnc_rows::Row;
+use fnc_streams::StreamSource;
+use std::alloc::Global;
+
+/// One poll into an emptied buffer, through the bound.
+fn next<S: Source>(source: &mut S, line: &mut LineBuf) -> Polled {
+    line.clear();
+    source.poll(line)
+}
+
+/// What so many polls answer, with the line of each, into a buffer of a size.
+fn polls<S: Source>(
+    alloc: Global,
+    source: &mut S,
+    size: u32,
+    count: u32,
+) -> Result<String, NoMemory> {
+    let mut line = LineBuf::with_size(alloc, size)?;
+    let mut said = String::new(alloc);
+    for _ in 0..count {
+        let answer = next(source, &mut line);
+        let bytes = shown(alloc, line.bytes())?;
+        said.push_str(format!(in alloc; "{answer:?} {bytes}, ")?.as_str())?;
+    }
+    let size = line.size();
+    said.push_str(format!(in alloc; "of {size}")?.as_str())?;
+    Ok(said)
+}
+
+/// What is said of a row: `source|SIZE|POLLS|FAILING POLLS|TEXT` or `reader|SIZE|POLLS|PIECE|..`.
+pub(crate) fn say(alloc: Global, row: &Row) -> Result<String, NoMemory> {
+    let (size, count) = (row.number32(1), row.number32(2));
+    match row.text(0) {
+        "source" => {
+            let failing = row.numbers(alloc, 3)?;
+            let mut source = MemorySource::new(alloc, row.bytes(4), failing.as_slice())?;
+            polls(alloc, &mut source, size, count)
+        }
+        _ => {
+            let mut source = StreamSource::new(alloc, Pieces { row, at: 3 })?;
+            polls(alloc, &mut source, size, count)
+        }
+    }
+}
