@@ -1,9 +1,11 @@
 -- What holds of each word that is read.
-use Rattle.std.proofs.Common.{◌≡◌, ℕ, ◌*◌, ◌≤◌, List, [], ◌∷◌, Bool, true, false, cond, Option, Some, None, Result, Ok, Err, IfOk, IfSome, IsTrue, refl, arith, drop}
-use Rattle.std.specs.Prelude.{ok_or, bytes_eq, codes, nat_le, take_while}
-use Rattle.std.specs.List.{list_all}
+use Rattle.std.proofs.Common.{◌≡◌, ℕ, ◌*◌, ◌+◌, ◌≤◌, ◌==◌, List, [], ◌∷◌, Bool, true, false, cond, Option, Some, None, Result, Ok, Err, IfOk, IfSome, IsTrue, refl, arith, drop, length}
+use Rattle.std.specs.Prelude.{ok_or, bytes_eq, codes, nat_le, nat_lt, take_while}
+use Rattle.std.specs.List.{count_by, list_all}
 use Rattle.std.specs.Char.{is_ascii_digit}
+use Rattle.std.proofs.lemmas.Bool.{ltb-false}
 use Rattle.std.proofs.lemmas.Bool.Decides.{nat_tests}
+use Rattle.std.proofs.lemmas.List.Splits.{length-slice_split}
 use Rattle.fnc_journal.specs.declared.limits.TheConstants.{DAY}
 use Rattle.fnc_journal.specs.declared.cause.Cause.{Cause}
 use Rattle.fnc_journal.specs.declared.entry.Kind.{Kind}
@@ -16,7 +18,7 @@ use Rattle.fnc_command.specs.Answers.{and_then}
 use Rattle.fnc_command.specs.Fields.{passing, bytes_of, text_of, name_of, agent_of, is_agent_name, number_of, action, action_of}
 use Rattle.fnc_command.specs.Levels.{is_marked, is_pattern, pattern_of, target_of, comma_parts, all_names, devices_of}
 use Rattle.fnc_command.specs.Asks.{at_least_one}
-use Rattle.fnc_command.specs.Proper.{IsAskable, IsProperTarget}
+use Rattle.fnc_command.specs.Proper.{AreNamed, IsAskable, IsProperTarget}
 use Rattle.fnc_command.proofs.Readings.{each, any, of_one}
 
 -- what passed a test passes it
@@ -53,12 +55,21 @@ target word = go (is_marked word)
     go false = of_one (λ t. IsTrue (is_name t)) IsProperTarget (name_of word) LevelTarget.Name (name word)
         (λ t named. named)
 
-pub devices : (word : List ℕ) → IfOk (devices_of word) (λ names. IsTrue (list_all is_name names))
+-- a text has a part, be it empty
+some-parts : (t : List ℕ) → nat_lt 0 (length (comma_parts t)) ≡ true
+some-parts t = go (nat_lt 0 (length (comma_parts t))) refl
+  where
+    go : (b : Bool) → nat_lt 0 (length (comma_parts t)) ≡ b → b ≡ true
+    go true p = refl
+    go false p =
+        let none : length (comma_parts t) ≤ 0 = ltb-false 0 (length (comma_parts t)) p in
+        let more : length (comma_parts t) ≡ count_by (λ b. b == 44) t + 1 = length-slice_split (λ b. b == 44) t in
+        absurd (omega (arith, none, more))
+
+pub devices : (word : List ℕ) → IfOk (devices_of word) AreNamed
 devices word =
-    each (λ t. Unit {0}) (λ names. IsTrue (list_all is_name names)) (text_of word) (λ t. all_names (comma_parts t))
-    (any (text_of word))
-    (λ t u. passed (λ names. IsTrue (list_all is_name names)) Cause.BadName (list_all is_name (comma_parts t))
-    (comma_parts t) (λ e. e))
+    each (λ t. Unit {0}) AreNamed (text_of word) (λ t. all_names (comma_parts t)) (any (text_of word))
+    (λ t u. passed AreNamed Cause.BadName (list_all is_name (comma_parts t)) (comma_parts t) (λ e. (e, some-parts t)))
 
 -- a value that is there
 pub there : {X : Type 0} (Q : X → Type 0) (o : Option X) (cause : Cause) → IfSome o Q → IfOk (ok_or o cause) Q

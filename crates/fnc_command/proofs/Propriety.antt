@@ -20,7 +20,7 @@ use Rattle.fnc_command.specs.Options.{cut_option, agent_word, option_words, opti
 use Rattle.fnc_command.specs.Asks.{Asking, asking, ask_of, coin_name, option_name, at_least_one, with_option, value_of, with_cut, with_words, no_options}
 use Rattle.fnc_command.specs.Commands.{Ended, ended, ended_of, exit_words, remove_of, confirm_of, agent_line, said_exit}
 use Rattle.fnc_command.specs.Lines.{command, said_after, exit_at, exit_said}
-use Rattle.fnc_command.specs.Proper.{IsTimed, IsAskable, IsProperTarget, IsProperCoin, IsProperCommand}
+use Rattle.fnc_command.specs.Proper.{AreNamed, IsTimed, IsAskable, IsProperTarget, IsProperCoin, IsProperCommand}
 use Rattle.fnc_command.proofs.Readings.{each, any, of_one, of_two, of_three}
 use Rattle.fnc_command.proofs.Bounds.{IsTotal, name, agent, target, devices, number_within, kind, total, there, passed}
 
@@ -151,7 +151,7 @@ module _ (mode : Mode) where
 
   level : (w : List ℕ × List ℕ × List ℕ) → IfOk (level_of w) (IsSaid mode Verb.Level)
   level w =
-      of_three Anything IsProperTarget (λ names. IsTrue (list_all is_name names)) (IsSaid mode Verb.Level)
+      of_three Anything IsProperTarget AreNamed (IsSaid mode Verb.Level)
       (number_of 18446744073709551615 w.0) (target_of w.1) (devices_of w.2) (λ i t d. Command.Level t i d)
       (any (number_of 18446744073709551615 w.0)) (target w.1) (devices w.2)
       (λ i t d u proper named. ((proper, named), refl))

@@ -1,5 +1,5 @@
 -- What holds of every line that is read, whatever it says.
-use Rattle.std.specs.Prelude.{ℕ, ◌≤◌, ◌<◌, ◌^◌, IsTrue, IfSome, Option, Some, None}
+use Rattle.std.specs.Prelude.{ℕ, ◌≤◌, ◌<◌, ◌^◌, List, length, nat_lt, IsTrue, IfSome, Option, Some, None}
 use Rattle.std.specs.List.{list_all}
 use Rattle.fnc_journal.specs.declared.limits.TheConstants.{DAY, GREATEST_MOMENT}
 use Rattle.fnc_journal.specs.declared.entry.Kind.{Kind}
@@ -29,6 +29,10 @@ abbrev pub IsProperTarget : LevelTarget → Type 0
 IsProperTarget (LevelTarget.Name name) = IsTrue (is_name name)
 IsProperTarget (LevelTarget.Pattern pattern) = IsTrue (is_pattern pattern)
 
+-- one or more names
+abbrev pub AreNamed : List (List ℕ) → Type 0
+AreNamed names = IsTrue (list_all is_name names) × IsTrue (nat_lt 0 (length names))
+
 -- an action that can be asked for
 abbrev pub IsAskable : Kind → Type 0
 IsAskable Kind.On = Unit {0}
@@ -46,7 +50,7 @@ abbrev pub IsProperCommand : Mode → Command → Type 0
 IsProperCommand mode (Command.Device name agent options) = IsTrue (is_name name)
     × IfSome agent (λ a. IsTrue (is_agent_name a))
 IsProperCommand mode (Command.Remove name) = IsTrue (is_name name)
-IsProperCommand mode (Command.Level target index devices) = IsProperTarget target × IsTrue (list_all is_name devices)
+IsProperCommand mode (Command.Level target index devices) = IsProperTarget target × AreNamed devices
 IsProperCommand mode (Command.Unlevel target index) = IsProperTarget target
 IsProperCommand mode (Command.Agent name json) = IsTrue (is_agent_name name)
 IsProperCommand mode (Command.Ask client kind target total coin) =

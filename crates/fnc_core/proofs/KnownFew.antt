@@ -278,7 +278,7 @@ small-without index (k ∷ ks) a = go (index == k.index) (small-without index ks
     go true ih = a.1
     go false ih = (a.0, ih)
 
-levels-small : (target : LevelTarget) (h : History) → AllByRecursion (λ (e : Entry). IsBoundedLevel e.event) h →
+pub levels-small : (target : LevelTarget) (h : History) → AllByRecursion (λ (e : Entry). IsBoundedLevel e.event) h →
     AreSmall (levels target h)
 levels-small target [] k = tt
 levels-small target (e ∷ before) k = go e.event k.0 (levels-small target before k.1)

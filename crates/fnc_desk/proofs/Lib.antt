@@ -1,13 +1,20 @@
--- Proved here: each line gives the one input entry that it calls for, on a journal that stays plain, and what is
--- printed of a journal are the lines of its entries and the counts at its end.
-pub mod OneDevice
-pub mod OffOperations
-pub mod Asking
+-- Proved here: each line gives the one input entry that it calls for, and what is printed of a journal are the lines of its
+-- entries and the counts at its end.
 pub mod Replied
-pub mod Entering
+pub mod Taking
 pub mod Counting
-pub mod Given
+pub mod Configuring
+pub mod Described
+pub mod Within
+pub mod Devices
+pub mod Changing
+pub mod Keeping
+pub mod Denying
+pub mod Asked
+pub mod LineEntries
+pub mod ReadLines
+pub mod LineForms
+pub mod Numbering
 pub mod StartLine
-pub mod Naming
 pub mod Lines
 pub mod Tallies

@@ -1,49 +1,39 @@
 -- The input entry that a line gives, with the journal that it finds, the last moment and its number.
-use Rattle.std.specs.Prelude.{
-  ℕ,
-  ◌≡◌,
-  List,
-  [],
-  ◌∷◌,
-  ◌+◌,
-  ◌-◌,
-  ◌^◌,
-  Bool,
-  true,
-  false,
-  not,
-  ◌&&◌,
-  ◌==◌,
-  ◌⊎◌,
-  if◌then◌else◌,
-  min,
-  nat_le,
-  codes,
-  bytes_eq,
-}
-use Rattle.std.specs.List.{list_any}
-use Rattle.fnc_journal.specs.declared.definition.Registration.{Registration}
+use Rattle.std.specs.Prelude.{ℕ, ◌≡◌, List, [], ◌∷◌, ◌+◌, ◌-◌, ◌^◌, Bool, true, false, not, ◌&&◌, ◌⊎◌, if◌then◌else◌, min, max, nat_lt, Some, None, unwrap_or, Result, Ok, Err}
 use Rattle.fnc_journal.specs.declared.cause.Cause.{Cause}
 use Rattle.fnc_journal.specs.declared.entry.Entry.{Entry}
 use Rattle.fnc_journal.specs.declared.event.Event.{Event}
-use Rattle.fnc_journal.specs.declared.entry.Exit.{Exit}
-use Rattle.fnc_journal.specs.declared.entry.Kind.{Kind}
-use Rattle.fnc_journal.specs.declared.entry.Req.{Req}
-use Rattle.fnc_journal.specs.declared.entry.Scope.{Scope}
-use Rattle.fnc_journal.specs.declared.limits.TheConstants.{DEFAULT_TOTAL}
 use Rattle.fnc_journal.specs.History.{History}
-use Rattle.fnc_journal.specs.Found.{asks, devices, is_input}
-use Rattle.fnc_journal.specs.Operations.{open_operations}
-use Rattle.fnc_journal.specs.Slots.{Operation}
-use Rattle.fnc_journal.specs.Startable.{is_alive}
+use Rattle.fnc_journal.specs.Found.{is_input}
 use Rattle.fnc_outside.specs.Events.{Happening}
-use Rattle.fnc_desk.specs.Plain.{plain}
-use Rattle.fnc_desk.specs.Said.{Said, said}
+use Rattle.fnc_command.specs.declared.command.Command.{Command}
+use Rattle.fnc_command.specs.declared.command.ExitRead.{ExitRead}
+use Rattle.fnc_command.specs.declared.command.Mode.{Mode}
+use Rattle.fnc_command.specs.declared.command.Read.{Read}
+use Rattle.fnc_command.specs.Lines.{exit_said, said}
+use Rattle.fnc_core.specs.Cored.{Cored}
+use Rattle.fnc_desk.specs.Called.{Called, CallsFor}
+use Rattle.fnc_desk.specs.declared.entering.Given.{Given}
 
--- how many inputs a journal has
-abbrev pub inputs : History → ℕ
-inputs [] = 0
-inputs (e ∷ before) = if is_input e.event then inputs before + 1 else inputs before
+-- in mode Timed a line says its own, and a coin that it does not say is 0
+abbrev pub given_in : Mode → Given → Given
+given_in Mode.Timed given = record { moment = 0; coin = 0 }
+given_in Mode.Live given = given
+
+-- whether it is the exit of a run
+abbrev pub is_exit : Event → Bool
+is_exit (Event.Exit ended) = true
+is_exit _ = false
+
+-- whether a line gives such an entry: in mode Live an exit is told by no line
+abbrev pub is_of_line : Mode → Event → Bool
+is_of_line Mode.Timed event = is_input event
+is_of_line Mode.Live event = is_input event && not (is_exit event)
+
+-- how many entries of a journal lines gave
+abbrev pub inputs : Mode → History → ℕ
+inputs mode [] = 0
+inputs mode (e ∷ before) = if is_of_line mode e.event then inputs mode before + 1 else inputs mode before
 
 -- Lines are numbered from 1, and each gives one input. The number stands still at the greatest that it can be.
 abbrev pub line_number : ℕ → ℕ
@@ -53,80 +43,72 @@ line_number before = min (before + 1) (2 ^ 32 - 1)
 abbrev pub refused : ℕ → ℕ → Cause → Entry
 refused m number cause = record { moment = m; event = Event.Refused (record { line = number; cause = cause }) }
 
--- a device without options, whose agent is `fence_model`
-abbrev pub plain_registration : List ℕ → Registration
-plain_registration name = record { name = name; agent = codes "fence_model"; definition = plain }
+-- the entry of what a line calls for
+abbrev pub entry_of : ℕ → ℕ → Called → Entry
+entry_of m number (Ok event) = record { moment = m; event = event }
+entry_of m number (Err cause) = refused m number cause
 
--- whether an operation for the target is open
-abbrev pub has_operation : List ℕ → History → Bool
-has_operation target h = list_any (λ (o : Operation). bytes_eq target o.target) (open_operations h)
+-- an exit that was read, with its output, as what its line says
+abbrev pub read_of : ExitRead → List ℕ → Read
+read_of exit output = record { moment = Some exit.moment; command = Command.Exit exit.run exit.exit output }
 
--- the first device
-abbrev pub device_input : ℕ → List ℕ → Entry
-device_input m name = record {
-  moment = m;
-  event = Event.Device (record { reg = record { 0 = 0 }; registration = plain_registration name });
-}
+-- the moment of a line that was read
+abbrev pub moment_in : Given → Read → ℕ
+moment_in given read = unwrap_or read.moment given.moment
 
--- a request for `off` that begins its own operation, with the default total
-abbrev pub ask_of : Req → List ℕ → List ℕ → Event
-ask_of req client target =
-    Event.Ask (record {
-      req = req;
-      lead = req;
-      client = client;
-      kind = Kind.Off;
-      target = target;
-      total = DEFAULT_TOTAL;
-      coin = 0;
-      scope = Scope.Nothing;
-    })
+-- a command calls for an entry, after what came before it
+pub record GivesCommand (v : Cored) (coin : ℕ) (command : Command) (number : ℕ) (e : Entry) : Type 0 where
+  pub called : Called
+  pub calls : CallsFor v coin command called
+  pub is : e ≡ entry_of v.last number called
 
--- a request for `off`, with the number that comes next
-abbrev pub request_input : ℕ → List ℕ → List ℕ → History → Entry
-request_input m client target h = record { moment = m; event = ask_of (record { 0 = asks h }) client target }
+-- the same at the last moment, after these entries
+abbrev pub GivesNow : Cored → ℕ → Command → ℕ → History → Entry → Type 0
+GivesNow v coin command number h e =
+    GivesCommand (record { history = h; last = v.last; limit = v.limit }) coin command number e
 
--- the exit of a run with a code
-abbrev pub exit_of : ℕ → ℕ → Event
-exit_of run code = Event.Exit (record { run = record { 0 = run }; exit = Exit.Code code; listed = false })
+-- the same, or want of memory in its place
+abbrev pub GivesOther : Cored → ℕ → Command → ℕ → History → Entry → Type 0
+GivesOther v coin command number h e =
+    GivesNow v coin command number h e ⊎ (e ≡ refused v.last number Cause.NoMemory)
 
--- the exit of a run that is alive; of any other run it is refused
-abbrev pub exit_input : ℕ → ℕ → ℕ → History → ℕ → Entry
-exit_input m run code h number =
-    if is_alive run h then record { moment = m; event = exit_of run code } else refused m number Cause.UnknownRun
+-- whether a command tells of the end of a run
+abbrev pub ends_run : Command → Bool
+ends_run (Command.Exit run exit output) = true
+ends_run _ = false
 
--- A line is refused at the last moment where it isn't understood or its moment is past, where a device stands already,
--- and where a request finds no device or an open operation for its target.
-abbrev pub input_of : Said → History → ℕ → ℕ → Entry
-input_of (Said.Device m name) h last number =
-    if nat_le last m && (devices h == 0) then device_input m name else refused last number Cause.UnknownVerb
-input_of (Said.Ask m client target) h last number =
-    if nat_le last m && (devices h == 1) && not (has_operation target h) then request_input m client target h
-    else refused last number Cause.UnknownVerb
-input_of (Said.Exit m run code) h last number =
-    if nat_le last m then exit_input m run code h number else refused last number Cause.UnknownVerb
-input_of Said.Other h last number = refused last number Cause.UnknownVerb
+-- a line that was read is refused where its moment is past, and else gives what it calls for at its moment
+abbrev pub GivesIfPast : Bool → Given → Read → History → ℕ → ℕ → ℕ → Entry → Type 0
+GivesIfPast true given read h last limit number e = e ≡ refused last number Cause.PastMoment
+GivesIfPast false given read h last limit number e =
+    GivesCommand (record { history = h; last = moment_in given read; limit = limit }) given.coin read.command number e
 
--- a device and a request take memory
-abbrev pub takes_memory : Event → Bool
-takes_memory (Event.Device device) = true
-takes_memory (Event.Ask ask) = true
-takes_memory _ = false
+-- one that could not be read is refused at the last moment
+abbrev pub GivesRead : Given → Result Read Cause → History → ℕ → ℕ → ℕ → Entry → Type 0
+GivesRead given (Err cause) h last limit number e = e ≡ refused last number cause
+GivesRead given (Ok read) h last limit number e =
+    GivesIfPast (nat_lt (moment_in given read) last) given read h last limit number e
 
--- the input, or in place of one that takes memory the refusal for want of it
-abbrev pub IsInput : Entry → ℕ → Entry → Type 0
-IsInput input number e =
-    (e ≡ input) ⊎ ((takes_memory input.event ≡ true) × (e ≡ refused input.moment number Cause.NoMemory))
+-- the moment at which a line enters
+abbrev pub moment_of_line : Given → Result Read Cause → ℕ → ℕ
+moment_of_line given (Err cause) last = last
+moment_of_line given (Ok read) last = max last (moment_in given read)
 
--- the input that a line gives; a line that was too long for the buffer is refused
-abbrev pub Gives : Happening → History → ℕ → ℕ → Entry → Type 0
-Gives (Happening.Line bytes) h last number e = IsInput (input_of (said bytes) h last number) number e
-Gives (Happening.TooLong size) h last number e = e ≡ refused last number Cause.TooLong
-Gives Happening.Again h last number e = ⊥
+-- want of memory stands in place of any line but an exit that says its moment, at the line's moment or the last one
+pub record LacksMemory (given : Given) (line : Result Read Cause) (last number : ℕ) (e : Entry) : Type 0 where
+  pub no_exit : exit_said line ≡ None
+  pub is :
+      (e ≡ refused last number Cause.NoMemory)
+      ⊎ (e ≡ refused (moment_of_line given line last) number Cause.NoMemory)
 
--- how many entries an input needs: a request its own, its reply, and a start and an exit for each of two tries; an exit
--- none, for its entries were owed since its request was accepted
-abbrev pub need_of : Event → ℕ
-need_of (Event.Ask ask) = 6
-need_of (Event.Exit ended) = 0
-need_of _ = 1
+-- the entry of a line that was read, or was not
+abbrev pub GivesLine : Given → Result Read Cause → History → ℕ → ℕ → ℕ → Entry → Type 0
+GivesLine given line h last limit number e =
+    GivesRead given line h last limit number e ⊎ LacksMemory given line last number e
+
+-- the entry that a line gives; a line that was too long for the buffer is refused
+abbrev pub Gives : Mode → Given → Happening → History → ℕ → ℕ → ℕ → Entry → Type 0
+Gives mode given (Happening.Line bytes) h last limit number e =
+    GivesLine (given_in mode given) (said mode bytes) h last limit number e
+Gives mode given (Happening.TooLong size) h last limit number e = e ≡ refused last number Cause.TooLong
+Gives mode given Happening.Again h last limit number e = ⊥

@@ -1,8 +1,10 @@
-pub mod Plain
-pub mod PlainJournal
-pub mod Said
+pub mod Agents
+pub mod Causes
+pub mod Called
 pub mod Inputs
-pub mod Reading
+pub mod Obeyed
+pub mod Desked
 pub mod Entered
+pub mod Starting
 pub mod Lines
 pub mod Tallied

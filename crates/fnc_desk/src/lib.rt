@@ -1,14 +1,15 @@
-// The desk of a session, between the core and what stands outside: each line that comes gives exactly one
-// input entry of the journal, and the lines of the journal are printed. The lines that are understood are
-// `device`, `ask .. off ..` and `exit`, each with a moment.
+// The desk of a session, between the core and what stands outside: each line that comes gives exactly one input entry of
+// the journal, by what the line says and by what the journal says already; and the lines of the journal are printed.
 #![tactic(auto)]
 
+mod command;
+mod denial;
 mod desk;
-mod input;
-mod line;
+mod entering;
+mod fencer;
 mod output;
-mod plain;
 mod tally;
 
 pub use desk::Desk;
+pub use entering::Given;
 pub use output::{print_end, print_from, print_line};

@@ -27,7 +27,7 @@ fn name_of(journal: &Journal, reg: Reg) -> &str
 }
 
 /// The target of a request, nothing where there is no such request.
-fn target_of(journal: &Journal, req: Req) -> &str
+pub(crate) fn target_of(journal: &Journal, req: Req) -> &str
     ensures { result.now ≡ Line.target_of req.0 journal.now.history }
 {
     match journal.request(req) {

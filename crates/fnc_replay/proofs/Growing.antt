@@ -8,8 +8,8 @@ use Rattle.fnc_core.proofs.Following.{entered-history, entered-limit}
 use Rattle.fnc_core.specs.Cored.{Cored}
 use Rattle.fnc_outside.specs.Events.{Happening}
 use Rattle.fnc_journal.specs.declared.outcome.Full.{Full}
-use Rattle.fnc_desk.specs.Entered.{LacksRoom}
 use Rattle.fnc_replay.specs.Rests.{ServesLine}
+use Rattle.fnc_replay.specs.Timed.{LacksRoom}
 
 -- a journal with more entries
 pub record Grows (old new : Cored) : Type 0 where

@@ -41,17 +41,30 @@ use Rattle.fnc_journal.specs.Lawful.{last_moment}
 use Rattle.fnc_journal.specs.Owed.{owed}
 use Rattle.fnc_journal.specs.Served.{AreReplies}
 use Rattle.fnc_outside.specs.Events.{Happening}
-use Rattle.fnc_core.proofs.Following.{entered-answered, entered-history, entered-last}
+use Rattle.fnc_core.proofs.Following.{entered-answered, entered-history, entered-last, entered-limit}
 use Rattle.fnc_core.specs.Cored.{Cored, IsFull}
-use Rattle.fnc_desk.specs.Entered.{LacksRoom}
-use Rattle.fnc_desk.specs.Inputs.{Gives, inputs, line_number, need_of}
-use Rattle.fnc_desk.specs.Lines.{AreLines, FindsNoRoom, IsOfLine, NewestFindsNoRoom, is_line, last_come, newest_lines}
-use Rattle.fnc_desk.proofs.Counting.{given-is_input}
+use Rattle.fnc_command.specs.declared.command.Mode.{Mode}
+use Rattle.fnc_desk.specs.declared.entering.Given.{Given}
+use Rattle.fnc_desk.specs.Entered.{next_line}
+use Rattle.fnc_desk.specs.Inputs.{Gives, inputs, line_number}
+use Rattle.fnc_desk.specs.Lines.{
+  AreLines,
+  FindsNoRoom,
+  GivesNext,
+  IsOfLine,
+  NewestFindsNoRoom,
+  given_at,
+  is_line,
+  last_come,
+  newest_lines,
+}
+use Rattle.fnc_desk.proofs.Counting.{given-of_line}
 use Rattle.fnc_replay.specs.Heard.{Heard, HeardSoFar, HearsOn, HasInputs}
 use Rattle.fnc_replay.specs.Polls.{GaveLine, GaveNothing, Serves, Takes}
 use Rattle.fnc_replay.specs.declared.taken.Taken.{Taken}
 use Rattle.fnc_replay.specs.Rests.{ServesLine}
 use Rattle.fnc_replay.specs.Read.{Gave}
+use Rattle.fnc_replay.specs.Timed.{LacksRoom, nothing, timed}
 use Rattle.fnc_replay.specs.SourceAndSink.{Change, SinkTold, SourceTold, change}
 use Rattle.fnc_replay.proofs.Reading.{gave-gave, gave-none}
 use Rattle.fnc_replay.specs.Session.{Closes, EndsWriting, IsWriteFault, after_failed_flush, cored}
@@ -78,59 +91,78 @@ newest-line : (xs : List Happening) (x : Happening) → is_line x ≡ true →
 newest-line xs x e = newest-last xs x ∙ rw e refl
 
 -- there are as many inputs as lines
-inputs-lines : (h : History) (lines : List Happening) → AreLines h lines → inputs h ≡ length lines
-inputs-lines [] lines a = sym (ap length a)
-inputs-lines (e ∷ before) lines a = go (is_input e.event) lines a (inputs-lines before)
+inputs-lines : (limit : ℕ) (h : History) (lines : List Happening) → AreLines (timed limit) h lines →
+    inputs Mode.Timed h ≡ length lines
+inputs-lines limit [] lines a = sym (ap length a)
+inputs-lines limit (e ∷ before) lines a = go (is_input e.event) lines a (inputs-lines limit before)
   where
-    go : (b : Bool) (lines : List Happening) → IsOfLine b lines e before (AreLines before) →
-        ((lines : List Happening) → AreLines before lines → inputs before ≡ length lines) →
-        cond b (inputs before + 1) (inputs before) ≡ length lines
+    go : (b : Bool) (lines : List Happening) → IsOfLine b (timed limit) lines e before (AreLines (timed limit) before) →
+        ((lines : List Happening) → AreLines (timed limit) before lines → inputs Mode.Timed before ≡ length lines) →
+        cond b (inputs Mode.Timed before + 1) (inputs Mode.Timed before) ≡ length lines
     go false lines a ih = ih lines a
     go true [] a ih = absurd a
     go true (line ∷ lines) a ih = let rest = ih lines a.1 in omega (arith, rest)
 
 -- outputs have no line
-lines-outputs : (m : ℕ) (os h : History) (lines : List Happening) → AreOutputs m os → AreLines h lines →
-    AreLines (os ++ h) lines
-lines-outputs m [] h lines a l = l
-lines-outputs m (o ∷ os) h lines a l = rw a.0.0 (lines-outputs m os h lines a.1 l)
+lines-outputs : (limit m : ℕ) (os h : History) (lines : List Happening) → AreOutputs m os →
+    AreLines (timed limit) h lines → AreLines (timed limit) (os ++ h) lines
+lines-outputs limit m [] h lines a l = l
+lines-outputs limit m (o ∷ os) h lines a l = rw a.0.0 (lines-outputs limit m os h lines a.1 l)
+
+-- what came with a line in mode Timed does not count
+given-any : (line : Happening) (a b : Given) (h : History) (last limit n : ℕ) (e : Entry) →
+    Gives Mode.Timed a line h last limit n e → Gives Mode.Timed b line h last limit n e
+given-any (Happening.Line bytes) a b h last limit n e g = g
+given-any (Happening.TooLong size) a b h last limit n e g = g
+given-any Happening.Again a b h last limit n e g = g
 
 -- what a line gave with the last moment and its number, it gave with those of the lines that came
 gives-heard : (line : Happening) (lines : List Happening) (old : Cored) (e : Entry) (m : ℕ) (rs : History) →
-    AreReplies m rs → AreLines old.history lines → last_come old.history ≡ old.last →
-    Gives line (rs ++ old.history) old.last (line_number (inputs old.history)) e →
-    Gives line (rs ++ old.history) (last_come (rs ++ old.history)) (line_number (length lines)) e
+    AreReplies m rs → AreLines (timed old.limit) old.history lines → last_come old.history ≡ old.last →
+    Gives Mode.Timed nothing line (rs ++ old.history) old.last old.limit (next_line Mode.Timed old) e →
+    GivesNext (timed old.limit) (length lines) line (rs ++ old.history) e
 gives-heard line lines old e m rs r a l g =
-    subst (λ n. Gives line (rs ++ old.history) n (line_number (length lines)) e) (sym (last_come-replies ∙ l))
-    (subst (λ n. Gives line (rs ++ old.history) old.last (line_number n) e) (inputs-lines old.history lines a) g)
+    given-any line nothing (given_at (timed old.limit) (length lines) e) (rs ++ old.history)
+    (last_come (rs ++ old.history)) old.limit (line_number (length lines)) e
+    (subst
+    (λ n. Gives Mode.Timed nothing line (rs ++ old.history) n old.limit (line_number (length lines)) e)
+    (sym (last_come-replies ∙ l))
+    (subst (λ n. Gives Mode.Timed nothing line (rs ++ old.history) old.last old.limit (line_number n) e)
+    (inputs-lines old.limit old.history lines a) g))
   where
     last_come-replies : last_come (rs ++ old.history) ≡ last_come old.history
     last_come-replies =
         ap (λ (o : Option ℕ). unwrap_or o 0) (last_input-outputs m rs old.history (outputs-replies m rs r))
 
 -- a line that was served gave the newest input
-lines-served : (line : Happening) (lines : List Happening) (old new : Cored) → AreLines old.history lines →
-    last_come old.history ≡ old.last → ServesLine line old new → AreLines new.history (line ∷ lines)
+lines-served : (line : Happening) (lines : List Happening) (old new : Cored) →
+    AreLines (timed old.limit) old.history lines → last_come old.history ≡ old.last → ServesLine line old new →
+    AreLines (timed new.limit) new.history (line ∷ lines)
 lines-served line lines old new a l s =
-    subst (λ (h : History). AreLines h (line ∷ lines)) (sym whole)
-    (lines-outputs s.mid.last s.starts.some.starts _ (line ∷ lines)
+    subst (λ n. AreLines (timed n) new.history (line ∷ lines)) (sym limits)
+    (subst (λ (h : History). AreLines (timed old.limit) h (line ∷ lines)) (sym whole)
+    (lines-outputs old.limit s.mid.last s.starts.some.starts _ (line ∷ lines)
     (outputs-starts s.mid.last s.starts.some.starts s.starts.some.started)
-    (lines-outputs s.takes.entry.moment s.takes.enters.follows.replies _ (line ∷ lines)
-    (outputs-replies s.takes.entry.moment s.takes.enters.follows.replies (entered-answered s.takes.enters)) here))
+    (lines-outputs old.limit s.takes.entry.moment s.takes.enters.follows.replies _ (line ∷ lines)
+    (outputs-replies s.takes.entry.moment s.takes.enters.follows.replies (entered-answered s.takes.enters)) here)))
   where
+    limits : new.limit ≡ old.limit
+    limits = s.starts.some.limit ∙ entered-limit s.takes.enters
+
     met : History
     met = s.takes.enters.advances.advance ++ old.history
 
     whole : new.history ≡ s.starts.some.starts ++ (s.takes.enters.follows.replies ++ s.takes.entry ∷ met)
     whole = s.starts.some.history ∙ ap (λ (h : History). s.starts.some.starts ++ h) (entered-history s.takes.enters)
 
-    here : AreLines (s.takes.entry ∷ met) (line ∷ lines)
+    here : AreLines (timed old.limit) (s.takes.entry ∷ met) (line ∷ lines)
     here =
-        let is : is_input s.takes.entry.event ≡ true = given-is_input line met old.last _ s.takes.entry s.takes.is in
+        let is : is_input s.takes.entry.event ≡ true =
+        given-of_line Mode.Timed nothing line met old.last old.limit _ s.takes.entry s.takes.is in
         rw is (
           gives-heard line lines old s.takes.entry s.takes.entry.moment s.takes.enters.advances.advance
               s.takes.enters.advances.at_once a l s.takes.is,
-          lines-outputs s.takes.entry.moment s.takes.enters.advances.advance old.history lines
+          lines-outputs old.limit s.takes.entry.moment s.takes.enters.advances.advance old.history lines
               (outputs-replies s.takes.entry.moment s.takes.enters.advances.advance s.takes.enters.advances.at_once) a,
         )
 
@@ -140,7 +172,9 @@ last-served line old new s =
     ap (λ (o : Option ℕ). unwrap_or o 0) found ∙ sym (s.starts.some.last ∙ entered-last s.takes.enters)
   where
     is : is_input s.takes.entry.event ≡ true
-    is = given-is_input line (s.takes.enters.advances.advance ++ old.history) old.last _ s.takes.entry s.takes.is
+    is =
+        given-of_line Mode.Timed nothing line (s.takes.enters.advances.advance ++ old.history) old.last old.limit _
+        s.takes.entry s.takes.is
 
     found : last_input new.history ≡ Some s.takes.entry.moment
     found =
@@ -153,21 +187,23 @@ last-served line old new s =
         ∙ rw is refl
 
 -- a line that finds no room
-lacks-room : (line : Happening) (lines : List Happening) (full : Full) (old new : Cored) → AreLines old.history lines →
-    last_come old.history ≡ old.last → LacksRoom line old new full → NewestFindsNoRoom (line ∷ lines) new full
-lacks-room line lines full old new a l k = (
-  subst (λ (h : History). AreLines h lines) (sym k.advances.history)
-      (lines-outputs k.entry.moment k.advances.advance old.history lines
-      (outputs-replies k.entry.moment k.advances.advance k.advances.at_once) a),
-  record {
-    entry = k.entry;
-    gives =
-        subst (λ (h : History). Gives line h (last_come h) (line_number (length lines)) k.entry)
-        (sym k.advances.history)
-        (gives-heard line lines old k.entry k.entry.moment k.advances.advance k.advances.at_once a l k.is);
-    is_full = k.is_full;
-  },
-)
+lacks-room : (line : Happening) (lines : List Happening) (full : Full) (old new : Cored) →
+    AreLines (timed old.limit) old.history lines → last_come old.history ≡ old.last → LacksRoom line old new full →
+    NewestFindsNoRoom (timed new.limit) (line ∷ lines) new full
+lacks-room line lines full old new a l k =
+    subst (λ n. NewestFindsNoRoom (timed n) (line ∷ lines) new full) (sym k.advances.limit) (
+      subst (λ (h : History). AreLines (timed old.limit) h lines) (sym k.advances.history)
+          (lines-outputs old.limit k.entry.moment k.advances.advance old.history lines
+          (outputs-replies k.entry.moment k.advances.advance k.advances.at_once) a),
+      record {
+        entry = k.entry;
+        gives =
+            subst (λ (h : History). GivesNext (timed old.limit) (length lines) line h k.entry) (sym k.advances.history)
+            (gives-heard line lines old k.entry k.entry.moment k.advances.advance k.advances.at_once a l k.is);
+        no_exit = k.no_exit;
+        is_full = k.is_full;
+      },
+    )
 
 -- what was served is what the source gave
 pub takes-line : (t : Taken) (line : Happening) (source : Change SourceTold) (old new : Cored) → is_line line ≡ true →
@@ -186,7 +222,7 @@ heard-none told v h l = record {
   events = [];
   gave = gave-none told;
   polled = refl;
-  inputs = subst (λ (x : History). AreLines x []) (sym h) refl;
+  inputs = subst (λ (x : History). AreLines (timed v.limit) x []) (sym h) refl;
   last = ap last_come h ∙ sym l;
 }
 
@@ -199,7 +235,7 @@ heard-nothing start source made old new k e g =
       events = k.events ++ Happening.Again ∷ [];
       gave = gave-gave start source k.events (Happening.Again ∷ []) k.gave g;
       polled = let n = length-append k.events (Happening.Again ∷ []) in let m = k.polled in omega (arith, n, m);
-      inputs = subst (AreLines old.history) (sym (newest-last k.events Happening.Again)) k.inputs;
+      inputs = subst (AreLines (timed old.limit) old.history) (sym (newest-last k.events Happening.Again)) k.inputs;
       last = k.last;
     })
 
@@ -212,7 +248,7 @@ heard-line start source made old new k g = record {
   gave = gave-gave start source k.events (g.line ∷ []) k.gave g.gave;
   polled = let n = length-append k.events (g.line ∷ []) in let m = k.polled in omega (arith, n, m);
   inputs =
-      subst (AreLines new.history) (sym (newest-line k.events g.line g.is_line_given))
+      subst (AreLines (timed new.limit) new.history) (sym (newest-line k.events g.line g.is_line_given))
       (lines-served g.line (newest_lines k.events) old new k.inputs k.last g.does);
   last = last-served g.line old new g.does;
 }
@@ -259,7 +295,7 @@ heard-full start source made full old new k g = record {
   gave = gave-gave start source k.events (g.line ∷ []) k.gave g.gave;
   polled = let n = length-append k.events (g.line ∷ []) in let m = k.polled in omega (arith, n, m);
   inputs =
-      subst (λ (lines : List Happening). NewestFindsNoRoom lines new full)
+      subst (λ (lines : List Happening). NewestFindsNoRoom (timed new.limit) lines new full)
       (sym (newest-line k.events g.line g.is_line_given))
       (lacks-room g.line (newest_lines k.events) full old new k.inputs k.last g.does);
 }
@@ -283,8 +319,8 @@ heard-end o start source made sink old new k e g f =
         let m = k.polled in
         omega (arith, n, m)
 
-    lines : AreLines old.history (newest_lines events)
-    lines = subst (λ (es : List Happening). AreLines old.history (newest_lines es)) (sym (append-nil k.events)) k.inputs
+    lines : AreLines (timed old.limit) old.history (newest_lines events)
+    lines = subst (λ (es : List Happening). AreLines (timed old.limit) old.history (newest_lines es)) (sym (append-nil k.events)) k.inputs
 
     go : (o : Outcome) → EndsWriting o sink → Heard o (change start source.after) (made + 1) old
     go Outcome.Finished f = record { events = events; gave = gave; polled = polled; inputs = lines }
@@ -310,7 +346,7 @@ heard-fault start source made old new k e g =
           let m = k.polled in
           omega (arith, n, m);
       inputs =
-          subst (λ (es : List Happening). AreLines old.history (newest_lines es)) (sym (append-nil k.events)) k.inputs;
+          subst (λ (es : List Happening). AreLines (timed old.limit) old.history (newest_lines es)) (sym (append-nil k.events)) k.inputs;
     })
 
 -- the allowed polls were made
@@ -362,8 +398,10 @@ pub heard-cored : (o : Outcome) (source : Change SourceTold) (polls : ℕ) (v : 
 heard-cored o source polls v j e l k =
     record { events = k.events; gave = k.gave; polled = k.polled; inputs = go o (newest_lines k.events) k.inputs }
   where
-    lines : (xs : List Happening) → AreLines v.history xs → AreLines j.history xs
-    lines xs a = subst (λ (h : History). AreLines h xs) (sym e) a
+    lines : (xs : List Happening) → AreLines (timed v.limit) v.history xs → AreLines (timed j.limit) j.history xs
+    lines xs a =
+        subst (λ n. AreLines (timed n) j.history xs) (sym l)
+        (subst (λ (h : History). AreLines (timed v.limit) h xs) (sym e) a)
 
     full-is : (n : ℕ) (full : Full) → IsFull v n full → IsFull (cored j) n full
     full-is n full f = moved j.history j.limit e l
@@ -379,15 +417,19 @@ heard-cored o source polls v j e l k =
               (subst (λ k. k < length v.history + owed v.history + n) (sym l) f.above);
         }
 
-    room : (line : Happening) (xs : List Happening) (full : Full) → FindsNoRoom line xs v full →
-        FindsNoRoom line xs (cored j) full
+    room : (line : Happening) (xs : List Happening) (full : Full) → FindsNoRoom (timed v.limit) line xs v full →
+        FindsNoRoom (timed j.limit) line xs (cored j) full
     room line xs full f = record {
       entry = f.entry;
-      gives = subst (λ (h : History). Gives line h (last_come h) (line_number (length xs)) f.entry) (sym e) f.gives;
-      is_full = full-is (need_of f.entry.event) full f.is_full;
+      gives =
+          subst (λ n. GivesNext (timed n) (length xs) line j.history f.entry) (sym l)
+          (subst (λ (h : History). GivesNext (timed v.limit) (length xs) line h f.entry) (sym e) f.gives);
+      no_exit = f.no_exit;
+      is_full = full-is 1 full f.is_full;
     }
 
-    newest : (xs : List Happening) (full : Full) → NewestFindsNoRoom xs v full → NewestFindsNoRoom xs (cored j) full
+    newest : (xs : List Happening) (full : Full) → NewestFindsNoRoom (timed v.limit) xs v full →
+        NewestFindsNoRoom (timed j.limit) xs (cored j) full
     newest [] full f = f
     newest (line ∷ xs) full f = (lines xs f.0, room line xs full f.1)
 

@@ -2,7 +2,6 @@
 use Rattle.std.proofs.Common.{ℕ, List, [], ◌∷◌, ◌++◌, ◌≡◌, ◌<◌, ◌+◌, Bool, true, false, cond, sym, ap, ◌∙◌, codes, length, ltb}
 use Rattle.std.proofs.Common.{Option, append_assoc, subst}
 use Rattle.fnc_outside.specs.Writes.{AppendsPart}
-use Rattle.fnc_journal.specs.declared.entry.Entry.{Entry}
 use Rattle.fnc_journal.specs.History.{History}
 use Rattle.fnc_journal.specs.Prefix.{prefix}
 use Rattle.fnc_journal_text.specs.declared.form.Form.{Form}

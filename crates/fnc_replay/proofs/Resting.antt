@@ -1,36 +1,5 @@
 -- How a line, served in full, leaves the session at rest.
-use Rattle.std.proofs.Common.{
-  ℕ,
-  List,
-  [],
-  ◌∷◌,
-  ◌++◌,
-  Bool,
-  true,
-  false,
-  ◌≡◌,
-  ◌≤◌,
-  ◌<◌,
-  refl,
-  ap,
-  sym,
-  ◌∙◌,
-  subst,
-  Option,
-  Some,
-  None,
-  IsTrue,
-  arith,
-  inl,
-  inr,
-  ◌==◌,
-  eq-eqb,
-  eqb-true,
-  false-eqb,
-  ap₂,
-  ◌+◌,
-  length,
-}
+use Rattle.std.proofs.Common.{ℕ, [], ◌∷◌, ◌++◌, Bool, true, false, ◌≡◌, ◌≤◌, ◌<◌, refl, ap, sym, ◌∙◌, subst, Option, Some, None, IsTrue, arith, inl, inr, ◌==◌, eq-eqb, eqb-true, false-eqb, ap₂, ◌+◌, length}
 use Rattle.std.specs.Prelude.{◌⊎◌}
 use Rattle.std.specs.List.{AllByRecursion}
 use Rattle.fnc_journal.specs.declared.entry.Entry.{Entry}
@@ -48,8 +17,9 @@ use Rattle.fnc_journal.proofs.DrivenSteps.{reply-no_input, rests-next, rests-sam
 use Rattle.fnc_core.proofs.Following.{entered-answered, entered-history, entered-last}
 use Rattle.fnc_core.specs.Cored.{Cored, IsFull, Sound, Starts}
 use Rattle.fnc_core.specs.declared.change.Started.{Started}
-use Rattle.fnc_desk.specs.Entered.{TakesLine, LacksRoom}
-use Rattle.fnc_desk.proofs.Counting.{given-is_input}
+use Rattle.fnc_command.specs.declared.command.Mode.{Mode}
+use Rattle.fnc_desk.proofs.Counting.{given-of_line}
+use Rattle.fnc_replay.specs.Timed.{LacksRoom, TakesLine, nothing}
 use Rattle.fnc_replay.specs.Rests.{Rests, AreStarts, StartsSome, StartsAll, ServesLine}
 use Rattle.fnc_replay.specs.Session.{
   Closes,
@@ -169,7 +139,8 @@ rests-served line old mid new r t s k = record {
 }
   where
     is-line : is_input t.entry.event ≡ true
-    is-line = given-is_input line (t.enters.advances.advance ++ old.history) old.last _ t.entry t.is
+    is-line =
+        given-of_line Mode.Timed nothing line (t.enters.advances.advance ++ old.history) old.last old.limit _ t.entry t.is
 
     lead : History
     lead = t.enters.advances.advance ++ old.history

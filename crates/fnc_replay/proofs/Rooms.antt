@@ -1,17 +1,15 @@
 -- How each input goes on having found its room.
-use Rattle.std.proofs.Common.{ℕ, [], ◌∷◌, ◌++◌, ◌≡◌, ◌≤◌, ◌+◌, Bool, true, false, refl, ap, sym, ◌∙◌, subst, arith, length}
-use Rattle.fnc_journal.specs.declared.entry.Entry.{Entry}
+use Rattle.std.proofs.Common.{ℕ, [], ◌∷◌, ◌++◌, ◌≡◌, ◌≤◌, ◌+◌, Bool, true, false, cond, refl, ap, sym, ◌∙◌, subst, arith, length}
 use Rattle.fnc_journal.specs.declared.outcome.Full.{Full}
 use Rattle.fnc_journal.specs.History.{History}
-use Rattle.fnc_journal.specs.Found.{is_input}
 use Rattle.fnc_journal.specs.Owed.{owed}
 use Rattle.fnc_outside.specs.Events.{Happening}
 use Rattle.fnc_core.specs.Cored.{Cored}
 use Rattle.fnc_core.proofs.Following.{entered-answered, entered-history}
-use Rattle.fnc_desk.specs.Entered.{LacksRoom}
-use Rattle.fnc_desk.specs.Inputs.{need_of}
+use Rattle.fnc_desk.specs.Inputs.{is_exit}
 use Rattle.fnc_replay.specs.Rests.{ServesLine}
 use Rattle.fnc_replay.specs.Room.{FoundRoom}
+use Rattle.fnc_replay.specs.Timed.{LacksRoom, needed}
 use Rattle.fnc_replay.proofs.Resting.{AreOutputs, outputs-replies, outputs-starts}
 
 -- outputs ask for no room
@@ -40,11 +38,20 @@ room-served line old new s r =
     whole : new.history ≡ s.starts.some.starts ++ (s.takes.enters.follows.replies ++ s.takes.entry ∷ met)
     whole = s.starts.some.history ∙ ap (λ (h : History). s.starts.some.starts ++ h) (entered-history s.takes.enters)
 
-    found : length met + owed met + need_of s.takes.entry.event ≤ old.limit
-    found =
-        subst (λ n. length met + owed met + need_of s.takes.entry.event ≤ n) s.takes.enters.advances.limit
-        (subst (λ (h : History). length h + owed h + need_of s.takes.entry.event ≤ s.takes.enters.advanced.limit)
+    least : (b : Bool) → (b ≡ false → 1 ≤ s.takes.need) → cond b 0 1 ≤ s.takes.need
+    least true some = omega arith
+    least false some = some refl
+
+    room : length met + owed met + s.takes.need ≤ old.limit
+    room =
+        subst (λ n. length met + owed met + s.takes.need ≤ n) s.takes.enters.advances.limit
+        (subst (λ (h : History). length h + owed h + s.takes.need ≤ s.takes.enters.advanced.limit)
         s.takes.enters.advances.history s.takes.enters.has_room)
+
+    found : length met + owed met + needed s.takes.entry.event ≤ old.limit
+    found =
+        let few : needed s.takes.entry.event ≤ s.takes.need = least (is_exit s.takes.entry.event) s.takes.needs in
+        omega (arith, room, few)
 
 -- a line that found none stands nowhere
 pub room-passed : (line : Happening) (full : Full) (old new : Cored) → LacksRoom line old new full →

@@ -1,5 +1,5 @@
 -- What the sink holds of a text, after a print and after the last flush.
-use Rattle.std.proofs.Common.{List, [], ◌++◌, ◌≡◌, ◌≤◌, ℕ, Result, Ok, Err, inl, inr}
+use Rattle.std.proofs.Common.{List, [], ◌≡◌, ◌≤◌, ℕ, Result, Ok, Err, inl, inr}
 use Rattle.std.specs.Prelude.{◌⊎◌, OnErr, OnOk}
 use Rattle.fnc_journal.specs.declared.outcome.Outcome.{Outcome}
 use Rattle.fnc_journal.specs.History.{History}

@@ -3,6 +3,7 @@ use Rattle.std.specs.Prelude.{ℕ, ◌≡◌, ◌+◌, ◌⊎◌, List, length, 
 use Rattle.fnc_journal.specs.declared.outcome.Outcome.{Outcome}
 use Rattle.fnc_outside.specs.Events.{Happening}
 use Rattle.fnc_core.specs.Cored.{Cored}
+use Rattle.fnc_replay.specs.Timed.{timed}
 use Rattle.fnc_replay.specs.Read.{Gave}
 use Rattle.fnc_replay.specs.SourceAndSink.{Change, SourceTold}
 use Rattle.fnc_desk.specs.Lines.{AreLines, NewestFindsNoRoom, last_come, newest_lines}
@@ -16,8 +17,8 @@ HasPolled _ events polls = events ≡ polls
 
 -- the lines, the newest first: each gave an input, but for a last one for which a full journal has no room
 abbrev pub HasInputs : Outcome → List Happening → Cored → Type 0
-HasInputs (Outcome.JournalFull full) lines v = NewestFindsNoRoom lines v full
-HasInputs _ lines v = AreLines v.history lines
+HasInputs (Outcome.JournalFull full) lines v = NewestFindsNoRoom (timed v.limit) lines v full
+HasInputs _ lines v = AreLines (timed v.limit) v.history lines
 
 -- The events that the source gave in a session, where it tells them: as many as were polled, and each line among them
 -- gave its input entry.
@@ -32,7 +33,7 @@ pub record HeardSoFar (source : Change SourceTold) (polls : ℕ) (v : Cored) : T
   pub events : List Happening
   pub gave : Gave source events
   pub polled : length events ≡ polls
-  pub inputs : AreLines v.history (newest_lines events)
+  pub inputs : AreLines (timed v.limit) v.history (newest_lines events)
   pub last : last_come v.history ≡ v.last
 
 -- the same after a turn, which ends the session or not

@@ -2,7 +2,7 @@
 use Rattle.std.specs.Prelude.{◌≡◌, [], ◌∷◌, true}
 use Rattle.fnc_outside.specs.Events.{Happening}
 use Rattle.fnc_core.specs.Cored.{Cored}
-use Rattle.fnc_desk.specs.Entered.{LacksRoom}
+use Rattle.fnc_replay.specs.Timed.{LacksRoom}
 use Rattle.fnc_desk.specs.Lines.{is_line}
 use Rattle.fnc_replay.specs.declared.taken.Taken.{Taken}
 use Rattle.fnc_replay.specs.Read.{Gave}

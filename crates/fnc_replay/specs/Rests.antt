@@ -8,7 +8,7 @@ use Rattle.fnc_journal.specs.Driven.{DrivenInputs}
 use Rattle.fnc_journal.specs.Served.{AtRest}
 use Rattle.fnc_outside.specs.Events.{Happening}
 use Rattle.fnc_core.specs.Cored.{Cored}
-use Rattle.fnc_desk.specs.Entered.{TakesLine}
+use Rattle.fnc_replay.specs.Timed.{TakesLine}
 
 -- nothing came yet, or the last input was served in full at the last moment; and so was each one before it
 pub record Rests (v : Cored) : Type 0 where

@@ -6,6 +6,7 @@ mod printed;
 mod session;
 mod starts;
 mod taken;
+mod timed;
 mod turn;
 mod turns;
 

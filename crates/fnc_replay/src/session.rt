@@ -7,9 +7,9 @@ ghost use Rattle.fnc_replay.specs.SourceAndSink.{change, source_told, sink_told}
 ghost use Rattle.fnc_replay.specs.Heard.{Heard};
 ghost use Rattle.fnc_replay.specs.Room.{KeepsRoom};
 
+use crate::timed::Timed;
 use crate::turn::close;
 use crate::turns::take_turns;
-use fnc_desk::Desk;
 use fnc_journal::limits::{GREATEST_JOURNAL, LEAST_JOURNAL, LONGEST_LINE};
 use fnc_journal::{Journal, Outcome};
 use fnc_journal_text::Form;
@@ -68,7 +68,7 @@ pub fn replay<S: Source + Drop, K: Sink + Drop>(
     ensures polls { result.polls ≤ polls }
 {
     let (Ok(mut desk), Ok(mut line)) = (
-        Desk::with_limit(alloc, limit),
+        Timed::with_limit(alloc, limit),
         LineBuf::with_size(alloc, LONGEST_LINE as u32),
     ) else {
         return Replayed {

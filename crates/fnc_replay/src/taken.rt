@@ -1,13 +1,13 @@
 // What one poll of the source does to the desk.
 
-ghost use Rattle.std.specs.Prelude.{◌≤◌, ◌≡◌, ℕ, []};
+ghost use Rattle.std.specs.Prelude.{◌≤◌, ◌≡◌, ℕ, [], length};
 ghost use Rattle.fnc_journal.specs.declared.limits.TheConstants.{LONGEST_LINE};
 ghost use Rattle.fnc_outside.specs.Events.{Happening};
 ghost use Rattle.fnc_replay.specs.Polls.{Serves, Takes};
 ghost use Rattle.fnc_replay.specs.SourceAndSink.{change, source_told};
 
 use crate::starts::start_all;
-use fnc_desk::Desk;
+use crate::timed::Timed;
 use fnc_journal::Full;
 use fnc_outside::{LineBuf, Polled, Source};
 
@@ -23,7 +23,8 @@ pub(crate) enum Taken {
 }
 
 /// Enters a line, and makes the starts that it lets be made.
-fn serve(desk: &mut Desk, line: &[u8]) -> Taken
+fn serve(desk: &mut Timed, line: &[u8]) -> Taken
+    requires short { length line.now ≤ LONGEST_LINE }
     ensures { Serves result (Happening.Line line.now) desk.old desk.new }
 {
     match desk.enter(line) {
@@ -36,7 +37,7 @@ fn serve(desk: &mut Desk, line: &[u8]) -> Taken
 }
 
 /// Enters a line that was too long to be read.
-fn serve_long(desk: &mut Desk) -> Taken
+fn serve_long(desk: &mut Timed) -> Taken
     ensures { (size : ℕ) → Serves result (Happening.TooLong size) desk.old desk.new }
 {
     match desk.enter_long() {
@@ -49,7 +50,7 @@ fn serve_long(desk: &mut Desk) -> Taken
 }
 
 /// Polls the source once, and serves what it gave.
-pub(crate) fn take<S: Source>(source: &mut S, desk: &mut Desk, line: &mut LineBuf) -> Taken
+pub(crate) fn take<S: Source>(source: &mut S, desk: &mut Timed, line: &mut LineBuf) -> Taken
     requires holds_none { line.old.bytes ≡ [] }
     requires longest { line.old.size ≡ LONGEST_LINE }
     ensures takes { let of_source = source_told S.given S.left S.faults in

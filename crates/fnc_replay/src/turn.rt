@@ -24,7 +24,7 @@ ghost use Rattle.fnc_replay.specs.Heard.{HeardSoFar, HearsOn};
 
 use crate::printed::{print_last, print_more};
 use crate::taken::{Taken, take};
-use fnc_desk::Desk;
+use crate::timed::Timed;
 use fnc_journal::{Full, Journal, Outcome};
 use fnc_journal_text::{Form, print_head};
 use fnc_outside::{LineBuf, Sink, Source};
@@ -145,7 +145,7 @@ pub(crate) fn close<K: Sink>(sink: &mut K, outcome: Outcome) -> Outcome
 pub(crate) fn turn<S: Source, K: Sink>(
     source: &mut S,
     sink: &mut K,
-    desk: &mut Desk,
+    desk: &mut Timed,
     line: &mut LineBuf,
     form: Form,
 ) -> Option<Outcome>

@@ -8,8 +8,8 @@ ghost use Rattle.fnc_replay.specs.Room.{FoundRoom};
 ghost use Rattle.fnc_replay.specs.Session.{EndsSession, Printed};
 ghost use Rattle.fnc_replay.specs.SourceAndSink.{change, source_told, sink_told};
 
+use crate::timed::Timed;
 use crate::turn::{turn, write_head};
-use fnc_desk::Desk;
 use fnc_journal::Outcome;
 use fnc_journal_text::Form;
 use fnc_outside::{LineBuf, Sink, Source};
@@ -26,7 +26,7 @@ pub(crate) struct Ended {
 pub(crate) fn take_turns<S: Source, K: Sink>(
     source: &mut S,
     sink: &mut K,
-    desk: &mut Desk,
+    desk: &mut Timed,
     line: &mut LineBuf,
     form: Form,
     polls: u64,

@@ -8,6 +8,7 @@ use Rattle.fnc_replay.specs.SourceAndSink.{change, sink_told, source_told}
 use Rattle.fnc_replay.proofs.Resting.{cause-closed, cause-cored, complete-of, served-driven}
 use Rattle.fnc_replay.proofs.Hearing.{heard-closed, heard-cored}
 use Rattle.fnc_replay.proofs.session.replay.Goals as goal
+use Rattle.fnc_printing.proofs.Pieces.{gains-none}
 
 pub returns-clause-served : goal.returns-clause-served
 returns-clause-served g c =
@@ -59,3 +60,9 @@ returns-clause-heard g c =
     c.close.ensures.closes
     (heard-cored c.take_turns-ended.result.outcome _ _ _ c.into_journal.result
     c.into_journal.ensures.history c.into_journal.ensures.limit c.take_turns-ended.ensures.heard)
+
+pub returns-in_default-clause-nothing_read : goal.returns-in_default-clause-nothing_read
+returns-in_default-clause-nothing_read g c = gains-none (g.S.Source.given c.args.source)
+
+pub returns-in_default-clause-nothing_written : goal.returns-in_default-clause-nothing_written
+returns-in_default-clause-nothing_written g c = gains-none (g.K.Sink.held c.args.sink)

@@ -1,16 +1,13 @@
 -- The start, one more turn, and the turn or the last poll that ended the session.
-use Rattle.std.proofs.Common.{[], ◌≡◌, ◌≤◌, ◌+◌, refl, sym, ◌∙◌, subst, arith, inl}
+use Rattle.std.proofs.Common.{[], ◌≡◌, ◌+◌, refl, sym, ◌∙◌, subst, arith, inl}
 use Rattle.fnc_journal.specs.declared.outcome.Outcome.{Outcome}
-use Rattle.fnc_journal.specs.Driven.{Driven, DrivenInputs}
+use Rattle.fnc_journal.specs.Driven.{DrivenInputs}
 use Rattle.fnc_journal.specs.History.{History}
-use Rattle.fnc_journal_text.specs.Paper.{text}
-use Rattle.fnc_outside.specs.Told.{Gains}
-use Rattle.fnc_outside.proofs.Telling.{gains-gains, holds-appended, holds-more}
 use Rattle.fnc_core.specs.Cored.{Cored}
-use Rattle.fnc_replay.specs.Heard.{Heard, HeardSoFar}
+use Rattle.fnc_replay.specs.Heard.{Heard}
 use Rattle.fnc_replay.specs.Rests.{Rests}
 use Rattle.fnc_replay.specs.Room.{FoundRoom}
-use Rattle.fnc_replay.specs.Session.{HoldsSoFar, PollCounts, last_line}
+use Rattle.fnc_replay.specs.Session.{HoldsSoFar, PollCounts}
 use Rattle.fnc_replay.specs.SourceAndSink.{change, sink_told, source_told}
 use Rattle.fnc_replay.proofs.Resting.{cause-of, driven-rests}
 use Rattle.fnc_replay.proofs.Hearing.{heard-budget, heard-none, opened}

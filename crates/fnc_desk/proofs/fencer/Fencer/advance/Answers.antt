@@ -1,0 +1,6 @@
+use Rattle.fnc_desk.proofs.Keeping.{keeps-advanced}
+use Rattle.fnc_desk.proofs.fencer.Fencer.advance.Goals as goal
+
+pub invariant_of-self : goal.invariant_of-self
+invariant_of-self c =
+    keeps-advanced c.self.inside.config c.self.inside.core c.advance.new.self c.args.moment c.advance.ensures c.self.invariant
