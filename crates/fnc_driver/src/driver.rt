@@ -1,4 +1,4 @@
-// The driver: it tells a core the inputs of a session, and after each starts what may start.
+// The driver: it tells a core an input, starts what may start then, and says what the journal gained.
 
 ghost use Rattle.std.specs.Prelude.{◌≡◌, ◌≤◌, ℕ, true, IfOk, IfSome};
 ghost use Rattle.fnc_journal.specs.declared.event.Event.{Event};
@@ -9,18 +9,20 @@ ghost use Rattle.fnc_core.specs.Cored.{Sound, event_of};
 ghost use Rattle.fnc_journal.specs.Known.{LeavesFewNames};
 ghost use Rattle.fnc_driver.specs.Askable.{IsAskable};
 
-use crate::plans::Written;
-use crate::steps::Step;
+use crate::plans::plan;
 use fnc_core::{Ask, Change, Core};
 use fnc_journal::limits::{GREATEST_MOMENT, MOST_DEVICES};
-use fnc_journal::{Entry, Event, NoMemory, Request, Text};
-use fnc_journal_reader::read_entry;
+use fnc_journal::{Entry, Event, Journal, NoMemory, Request, Text};
+use fnc_journal_reader::{EntryFault, read_entry};
 use fnc_journal_text::print_one;
 use fnc_judge::{is_in_order, is_plan};
 use fnc_outside::MemorySink;
+use fnc_rows::Row;
 use std::alloc::Global;
-use std::process::Abort;
-use std::test::Fail;
+use std::str;
+
+/// The most bytes that are said of a row.
+const MOST: u32 = 16_384;
 
 /// Whether an input leaves no more names registered than may be: it is no device, or one of the first ever.
 fn leaves_few_names(core: &Core, event: &Event) -> bool
@@ -54,16 +56,29 @@ fn change_of(core: &Core, event: Event) -> Option<Change>
     }
 }
 
-/// Tells the core an input that is no request.
-fn enter(rt: &impl Abort, core: &mut Core, entry: Entry)
-    requires { IsBoundedEvent entry.event }
+/// Whether an event may be told to the core at a moment.
+fn may_be_told(core: &Core, moment: u64, event: &Event) -> bool
+    ensures later { OnTrue result (core.now.last ≤ moment) }
+    ensures early { OnTrue result (moment ≤ GREATEST_MOMENT) }
+    ensures ordered { OnTrue result (in_order event.now core.now.history ≡ true) }
+    ensures sound { OnTrue result (Sound core.now) }
+{
+    core.last() <= moment && moment <= GREATEST_MOMENT && is_in_order(event, core.journal())
+}
+
+/// Tells the core an input that is no request, and whether it was told and taken.
+fn enter(core: &mut Core, entry: Entry) -> bool
+    requires later { core.old.last ≤ entry.moment }
+    requires early { entry.moment ≤ GREATEST_MOMENT }
+    requires ordered { in_order entry.event core.old.history ≡ true }
+    requires bounded { IsBoundedEvent entry.event }
+    requires sound { Sound core.old }
 {
     let moment = entry.moment;
-    assert!(rt; core.last() <= moment);
-    assert!(rt; moment <= GREATEST_MOMENT);
-    assert!(rt; is_in_order(&entry.event, core.journal()));
-    assert!(rt; leaves_few_names(core, &entry.event));
-    let entered = match entry.event {
+    if !leaves_few_names(core, &entry.event) {
+        return false;
+    }
+    match entry.event {
         Event::Pass => core.pass(moment).is_ok(),
         Event::Refused(refusal) => core.refuse(moment, refusal.line, refusal.cause).is_ok(),
         Event::Exit(ended) => core
@@ -73,8 +88,7 @@ fn enter(rt: &impl Abort, core: &mut Core, entry: Entry)
             Some(change) => core.note(moment, change).is_ok(),
             None => false,
         },
-    };
-    assert!(rt; entered);
+    }
 }
 
 /// What a request asks of a core.
@@ -92,29 +106,24 @@ fn ask_of(alloc: Global, core: &Core, request: &Request) -> Result<Ask, NoMemory
     })
 }
 
-/// Asks the core, with a plan.
+/// Asks the core a request with the plan of its row, and whether that is its plan and it was taken.
 fn ask(
-    rt: &impl Abort,
     alloc: Global,
     core: &mut Core,
-    entry: &Entry,
-    written: &Written,
-) -> Result<(), Fail> {
-    let moment = entry.moment;
-    assert!(rt; core.last() <= moment);
-    assert!(rt; moment <= GREATEST_MOMENT);
-    assert!(rt; is_in_order(&entry.event, core.journal()));
-    match &entry.event {
-        Event::Ask(request) => {
-            let request = request.get();
-            let ask = ask_of(alloc, core, request)?;
-            let plan = written.plan(alloc, request.scope)?;
-            assert!(rt; is_plan(core.journal(), ask.kind, ask.target.as_str(), moment, &plan));
-            core.ask(alloc, moment, ask, plan)?;
-            Ok(())
-        }
-        _ => Err("no request")?,
+    moment: u64,
+    request: &Request,
+    row: &Row,
+) -> Result<bool, NoMemory>
+    requires later { core.old.last ≤ moment }
+    requires early { moment ≤ GREATEST_MOMENT }
+    requires ordered { in_order (Event.Ask request.now) core.old.history ≡ true }
+{
+    let ask = ask_of(alloc, core, request)?;
+    let plan = plan(alloc, row, request.scope)?;
+    if !is_plan(core.journal(), ask.kind, ask.target.as_str(), moment, &plan) {
+        return Ok(false);
     }
+    Ok(core.ask(alloc, moment, ask, plan).is_ok())
 }
 
 /// Starts what may start.
@@ -126,45 +135,41 @@ fn start_all(core: &mut Core) {
     }
 }
 
-/// Tells the core a step, where that is a call, and starts what may start then.
+/// Tells the core the entry of a row, and whether it was told and taken.
+fn tell(alloc: Global, core: &mut Core, entry: Entry, row: &Row) -> Result<bool, NoMemory>
+    requires { IsBoundedEvent entry.event }
+{
+    let moment = entry.moment;
+    if !may_be_told(core, moment, &entry.event) {
+        return Ok(false);
+    }
+    match &entry.event {
+        Event::Ask(request) => ask(alloc, core, moment, request.get(), row),
+        _ => Ok(enter(core, entry)),
+    }
+}
+
+/// The lines of the entries of a journal from an index on.
+fn gained(alloc: Global, journal: &Journal, from: u32) -> Result<String, NoMemory> {
+    let mut sink = MemorySink::new(alloc, MOST, &[])?;
+    for index in from..journal.len() {
+        let _printed = print_one(journal.entry(index), &mut sink);
+    }
+    Ok(String::from_str(alloc, str::from_utf8(sink.bytes()).unwrap_or("no text"))?)
+}
+
+/// What the journal gained by the input of a row, `KIND|ENTRY`, and by what may start then.
 #[tactic(auto, using(crate::proofs::Bounded::bounded_when_read))]
-fn tell(rt: &impl Abort, alloc: Global, core: &mut Core, step: &Step) -> Result<(), Fail> {
-    let line = step.line(alloc)?;
-    match step {
-        Step::Then(_) => return Ok(()),
-        Step::Ask(_, written) => ask(
-            rt,
-            alloc,
-            core,
-            &read_entry(alloc, line.as_slice())?,
-            written,
-        )?,
-        _ => enter(rt, core, read_entry(alloc, line.as_slice())?),
+pub(crate) fn say(alloc: Global, core: &mut Core, row: &Row) -> Result<String, NoMemory> {
+    let from = core.journal().len();
+    let taken = match read_entry(alloc, row.bytes(1)) {
+        Ok(entry) => tell(alloc, core, entry, row)?,
+        Err(EntryFault::Malformed) => false,
+        Err(EntryFault::NoMemory) => return Err(NoMemory),
+    };
+    if !taken {
+        return Ok(String::from_str(alloc, "not taken")?);
     }
     start_all(core);
-    Ok(())
-}
-
-/// Whether an entry is that of a step.
-fn is_entry_of(alloc: Global, step: &Step, entry: &Entry) -> Result<bool, Fail> {
-    let mut sink = MemorySink::new(alloc, 1_024, &[])?;
-    print_one(entry, &mut sink)?;
-    let line = step.line(alloc)?;
-    Ok(sink.bytes().strip_suffix(b"\n") == Some(line.as_slice()))
-}
-
-/// A session leaves the journal that is written down.
-pub(crate) fn leaves(rt: &impl Abort, alloc: Global, steps: &[Step]) -> Result<(), Fail> {
-    let mut core = Core::with_limit(alloc, 16_384)?;
-    for step in steps {
-        tell(rt, alloc, &mut core, step)?;
-    }
-    let journal = core.journal();
-    for index in 0..journal.len() {
-        let step = steps.get(index as usize).ok_or("more entries than steps")?;
-        let same = is_entry_of(alloc, step, journal.entry(index))?;
-        assert!(rt; same, "entry {index} is not {}", step.front());
-    }
-    assert_eq!(rt; journal.len() as usize, steps.len());
-    Ok(())
+    gained(alloc, core.journal(), from)
 }
