@@ -3,6 +3,7 @@
 // what was read and what was written. Beside each trait stands one that works in memory, for tests.
 #![tactic(auto)]
 
+mod idle_source;
 mod line_buf;
 mod memory_sink;
 mod memory_source;
@@ -10,6 +11,7 @@ mod numbers;
 mod sink;
 mod source;
 
+pub use idle_source::IdleSource;
 pub use line_buf::LineBuf;
 pub use memory_sink::{MemorySink, Torn};
 pub use memory_source::MemorySource;
