@@ -158,16 +158,20 @@ fn gained(alloc: Global, journal: &Journal, from: u32) -> Result<String, NoMemor
     Ok(String::from_str(alloc, str::from_utf8(sink.bytes()).unwrap_or("no text"))?)
 }
 
-/// What the journal gained by the input of a row, `KIND|ENTRY`, and by what may start then.
+/// Tells the core the entry that a row spells, and whether it was told and taken.
 #[tactic(auto, using(crate::proofs::Bounded::bounded_when_read))]
+fn tell_row(alloc: Global, core: &mut Core, row: &Row) -> Result<bool, NoMemory> {
+    match read_entry(alloc, row.bytes(1)) {
+        Ok(entry) => tell(alloc, core, entry, row),
+        Err(EntryFault::Malformed) => Ok(false),
+        Err(EntryFault::NoMemory) => Err(NoMemory),
+    }
+}
+
+/// What the journal gained by the input of a row, `KIND|ENTRY`, and by what may start then.
 pub(crate) fn say(alloc: Global, core: &mut Core, row: &Row) -> Result<String, NoMemory> {
     let from = core.journal().len();
-    let taken = match read_entry(alloc, row.bytes(1)) {
-        Ok(entry) => tell(alloc, core, entry, row)?,
-        Err(EntryFault::Malformed) => false,
-        Err(EntryFault::NoMemory) => return Err(NoMemory),
-    };
-    if !taken {
+    if !tell_row(alloc, core, row)? {
         return Ok(String::from_str(alloc, "not taken")?);
     }
     start_all(core);

@@ -35,37 +35,41 @@ fn item(row: &Row) -> Waiting {
     }
 }
 
+/// What is said of a call that answers nothing.
+fn done(alloc: Global, done: Result<(), NoMemory>) -> Result<String, NoMemory> {
+    done?;
+    Ok(String::new(alloc))
+}
+
+/// What is said of how many runs are alive on a lane.
+fn alive(alloc: Global, queue: &Queue, lane: Reg) -> Result<String, NoMemory> {
+    Ok(format!(in alloc; "{}", queue.alive(lane))?)
+}
+
+/// What is said of an item: its operation.
+fn operation(alloc: Global, item: Option<Waiting>) -> Result<String, NoMemory> {
+    Ok(format!(in alloc; "{:?}", item.map(|item| item.req.0))?)
+}
+
+/// What is said of an item that is withdrawn: since when it was ready.
+fn since(alloc: Global, item: Option<Waiting>) -> Result<String, NoMemory> {
+    Ok(format!(in alloc; "{:?}", item.map(|item| item.ready))?)
+}
+
 /// What is said of a row: `reserve|ITEMS`, `add|OPERATION|LANE|READY|LIMIT`, `end|LANE` and `alive|LANE` of the runs
 /// that are alive on a lane, and `first|MOMENT`, `take|MOMENT` and `withdraw|OPERATION` of an item.
 pub(crate) fn say(alloc: Global, queue: &mut Queue, row: &Row) -> Result<String, NoMemory> {
+    let number = row.number32(1);
     match row.text(0) {
-        "reserve" => {
-            queue.reserve(row.number32(1))?;
-            Ok(String::new(alloc))
-        }
-        "add" => {
-            add(queue, item(row))?;
-            Ok(String::new(alloc))
-        }
+        "reserve" => done(alloc, queue.reserve(number)),
+        "add" => done(alloc, add(queue, item(row))),
         "end" => {
-            end(queue, Reg(row.number32(1)));
-            Ok(format!(in alloc; "{}", queue.alive(Reg(row.number32(1))))?)
+            end(queue, Reg(number));
+            alive(alloc, queue, Reg(number))
         }
-        "alive" => Ok(format!(in alloc; "{}", queue.alive(Reg(row.number32(1))))?),
-        "first" => Ok(format!(in alloc;
-            "{:?}",
-            queue.first(row.number(1)).map(|item| item.req.0)
-        )?),
-        "take" => {
-            Ok(format!(in alloc;
-                "{:?}",
-                queue.take_first(row.number(1)).map(|item| item.req.0)
-            )?)
-        }
-        "withdraw" => {
-            let withdrawn = queue.withdraw(Req(row.number32(1)));
-            Ok(format!(in alloc; "{:?}", withdrawn.map(|item| item.ready))?)
-        }
-        _ => Ok(String::from_str(alloc, "no such row")?),
+        "alive" => alive(alloc, queue, Reg(number)),
+        "first" => operation(alloc, queue.first(row.number(1)).copied()),
+        "take" => operation(alloc, queue.take_first(row.number(1))),
+        _ => since(alloc, queue.withdraw(Req(number))),
     }
 }

@@ -1,5 +1,6 @@
 // Journals that lines spell: what the judge says of them, and what is printed of their entries.
 
+use crate::lookups::{chain, found};
 use fnc_journal::limits::LEAST_JOURNAL;
 use fnc_journal::{Journal, NoMemory};
 use fnc_journal_reader::{EntryFault, read_entry};
@@ -38,35 +39,51 @@ pub(crate) fn spelled(alloc: Global, line: &[u8]) -> Result<Vec<u8>, NoMemory> {
     Ok(bytes)
 }
 
-/// The journal that these lines spell.
-pub(crate) fn journal(alloc: Global, lines: &[Vec<u8>]) -> Result<Journal, EntryFault> {
-    changed(alloc, lines, lines.len(), &[])
+/// Enters the entry that a line spells, where there is room for it.
+fn enter(alloc: Global, journal: &mut Journal, line: &[u8]) -> Result<(), EntryFault> {
+    let entry = read_entry(alloc, line)?;
+    if journal.len() < journal.limit() {
+        journal.push(entry);
+    }
+    Ok(())
 }
 
-/// The journal that these lines spell, with one of them in place of another.
-fn changed(
+/// Enters what lines spell, with one of them in place of another.
+fn enter_all(
     alloc: Global,
+    journal: &mut Journal,
     lines: &[Vec<u8>],
     place: usize,
     line: &[u8],
-) -> Result<Journal, EntryFault> {
-    let mut journal = Journal::with_limit(alloc, LEAST_JOURNAL)?;
+) -> Result<(), EntryFault> {
     for (i, kept) in lines.iter().enumerate() {
-        let line = if i == place { line } else { kept.as_slice() };
-        let entry = read_entry(alloc, line)?;
-        if journal.len() < journal.limit() {
-            journal.push(entry);
-        }
+        enter(
+            alloc,
+            journal,
+            if i == place { line } else { kept.as_slice() },
+        )?;
     }
-    Ok(journal)
+    Ok(())
 }
 
-/// What the judge says of a journal, or why it is none.
-fn judged(alloc: Global, journal: Result<Journal, EntryFault>) -> Result<String, NoMemory> {
-    match journal {
-        Ok(journal) => Ok(format!(in alloc; "{:?}", judge(&journal))?),
-        Err(fault) => Ok(format!(in alloc; "{fault}")?),
+/// Enters the lines of a journal; for a row `change|INDEX|LINE`, with that line in place of one.
+fn spell(
+    alloc: Global,
+    journal: &mut Journal,
+    lines: &[Vec<u8>],
+    row: &Row,
+) -> Result<(), EntryFault> {
+    if row.text(0) == "change" {
+        let line = spelled(alloc, row.bytes(2))?;
+        return enter_all(
+            alloc,
+            journal,
+            lines,
+            row.number(1) as usize,
+            line.as_slice(),
+        );
     }
+    enter_all(alloc, journal, lines, lines.len(), &[])
 }
 
 /// What is printed of an entry.
@@ -80,21 +97,33 @@ fn printed(alloc: Global, journal: &Journal, index: u32) -> Result<String, NoMem
     Ok(format!(in alloc; "{done:?} {text}")?)
 }
 
-/// What is said of a row: `judge` of the journal, `change|INDEX|LINE` of it with another line there, and
-/// `print|INDEX` of an entry.
-pub(crate) fn say(alloc: Global, lines: &[Vec<u8>], row: &Row) -> Result<String, NoMemory> {
+/// What the judge says of a journal.
+fn judged(alloc: Global, journal: &Journal) -> Result<String, NoMemory> {
+    Ok(format!(in alloc; "{:?}", judge(journal))?)
+}
+
+/// What is said of a journal by a row.
+fn told(alloc: Global, journal: &Journal, row: &Row) -> Result<String, NoMemory> {
     match row.text(0) {
-        "judge" => judged(alloc, journal(alloc, lines)),
-        "change" => {
-            let line = spelled(alloc, row.bytes(2))?;
-            judged(
-                alloc,
-                changed(alloc, lines, row.number(1) as usize, line.as_slice()),
-            )
-        }
-        _ => match journal(alloc, lines) {
-            Ok(journal) => printed(alloc, &journal, row.number32(1)),
-            Err(fault) => Ok(format!(in alloc; "{fault}")?),
-        },
+        "judge" | "change" => judged(alloc, journal),
+        "print" => printed(alloc, journal, row.number32(1)),
+        "number" => found(alloc, journal, row.number32(1)),
+        _ => chain(alloc, journal),
+    }
+}
+
+/// Why lines spell no journal.
+fn refused(alloc: Global, fault: EntryFault) -> Result<String, NoMemory> {
+    Ok(format!(in alloc; "{fault}")?)
+}
+
+/// What is said of a row: `judge` of the journal that lines spell, `change|INDEX|LINE` of it with another line there,
+/// `print|INDEX` of an entry, `number|NUMBER` of what its index finds by that, and `chain` of what stands before each
+/// entry. This alone owns a journal, since each function that does takes the prover long.
+pub(crate) fn say(alloc: Global, lines: &[Vec<u8>], row: &Row) -> Result<String, NoMemory> {
+    let mut journal = Journal::with_limit(alloc, LEAST_JOURNAL)?;
+    match spell(alloc, &mut journal, lines, row) {
+        Ok(()) => told(alloc, &journal, row),
+        Err(fault) => refused(alloc, fault),
     }
 }

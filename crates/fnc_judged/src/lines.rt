@@ -18,22 +18,20 @@ fn printed(alloc: Global, entry: &Entry, torn: &[Torn]) -> Result<String, NoMemo
     Ok(format!(in alloc; "{head:?} {line:?} {text}")?)
 }
 
+/// What is printed of the entry that a line spells, or why it spells none.
+fn read(alloc: Global, line: &[u8], torn: &[Torn]) -> Result<String, NoMemory> {
+    match read_entry(alloc, line) {
+        Ok(entry) => printed(alloc, &entry, torn),
+        Err(fault) => Ok(format!(in alloc; "{fault}")?),
+    }
+}
+
 /// What is said of a row: `line|LINE` of what is printed of the entry that it spells, and `torn|WRITE|KEPT|LINE`
 /// where the write of a number fails and keeps so many bytes.
 pub(crate) fn say(alloc: Global, row: &Row) -> Result<String, NoMemory> {
-    let (line, torn) = match row.text(0) {
-        "torn" => {
-            let torn = Torn {
-                write: row.number32(1),
-                kept: row.number32(2),
-            };
-            (row.bytes(3), Some(torn))
-        }
-        _ => (row.bytes(1), None),
-    };
-    match (read_entry(alloc, line), torn) {
-        (Ok(entry), Some(torn)) => printed(alloc, &entry, &[torn]),
-        (Ok(entry), None) => printed(alloc, &entry, &[]),
-        (Err(fault), _) => Ok(format!(in alloc; "{fault}")?),
+    if row.text(0) == "line" {
+        return read(alloc, row.bytes(1), &[]);
     }
+    let (write, kept) = (row.number32(1), row.number32(2));
+    read(alloc, row.bytes(3), &[Torn { write, kept }])
 }

@@ -31,8 +31,10 @@ fn said(alloc: Global, tried: &mut Tried, row: &Row) -> Result<String, NoMemory>
             tried.lines.push(journals::spelled(alloc, row.bytes(1))?)?;
             Ok(format!(in alloc; "{}", tried.lines.len())?)
         }
-        "judge" | "change" | "print" => journals::say(alloc, tried.lines.as_slice(), row),
-        "number" | "chain" | "size" => lookups::say(alloc, tried.lines.as_slice(), row),
+        "judge" | "change" | "print" | "number" | "chain" => {
+            journals::say(alloc, tried.lines.as_slice(), row)
+        }
+        "size" => lookups::size(alloc),
         "line" | "torn" => lines::say(alloc, row),
         "queue" => {
             tried.queue = Queue::new(alloc);

@@ -1,13 +1,14 @@
 // The texts that a fencer and its agents exchange.
 
-ghost use Rattle.std.specs.Prelude.{◌≡◌, IfOk};
+ghost use Rattle.std.specs.Prelude.{◌≡◌, ◌∷◌, IfOk};
+ghost use Rattle.fnc_agent_api.specs.OptionLines.{AreSendable};
 ghost use Rattle.fnc_agent_api.specs.Options.{pair as pair_of};
 
 use crate::joined::joined_pairs;
 use fnc_agent_api::{
     exit_meaning, lists, options_text, plain_description, read_description, read_options,
 };
-use fnc_journal::{Description, Exit, Kind, NoMemory, Pair, Pairs, Text};
+use fnc_journal::{Actions, Description, Exit, Kind, NoMemory, Pair, Pairs, Text};
 use fnc_rows::Row;
 use std::alloc::Global;
 use std::str;
@@ -19,14 +20,13 @@ pub(crate) fn say(alloc: Global, row: &Row) -> Result<String, NoMemory> {
     match row.text(0) {
         "options" => options(alloc, row.bytes(1)),
         "value" => value(alloc, row.bytes(1), row.text(2)),
-        "listed" => Ok(format!(in alloc; "{}", lists(row.bytes(1), row.text(2)))?),
+        "listed" => listed(alloc, row.bytes(1), row.text(2)),
         "meaning" => meaning(alloc, row.text(1), row.text(2)),
         "description" => description(alloc, row.bytes(1)),
         "parameters" => parameters(alloc, row.bytes(1)),
-        "plain" => told(alloc, &plain_description(alloc)?),
+        "plain" => plain(alloc),
         "sent" => sent(alloc),
-        "sent alone" => sent_alone(alloc),
-        _ => Ok(String::from_str(alloc, "no such row")?),
+        _ => sent_alone(alloc),
     }
 }
 
@@ -46,6 +46,17 @@ fn value(alloc: Global, text: &[u8], name: &str) -> Result<String, NoMemory> {
     }
 }
 
+/// Whether an output lists a node.
+fn listed(alloc: Global, output: &[u8], target: &str) -> Result<String, NoMemory> {
+    Ok(format!(in alloc; "{}", lists(output, target))?)
+}
+
+/// An agent of which nothing is told.
+fn plain(alloc: Global) -> Result<String, NoMemory> {
+    let agent = plain_description(alloc)?;
+    told(alloc, &agent)
+}
+
 /// What the exit of an action means.
 fn meaning(alloc: Global, action: &str, exit: &str) -> Result<String, NoMemory> {
     let kind = match action {
@@ -62,11 +73,14 @@ fn meaning(alloc: Global, action: &str, exit: &str) -> Result<String, NoMemory> 
     Ok(format!(in alloc; "{:?}", exit_meaning(kind, exit))?)
 }
 
+/// Whether an agent has each of the actions.
+fn can(alloc: Global, a: &Actions) -> Result<String, NoMemory> {
+    Ok(format!(in alloc; "{} {} {} {} {} ", a.on, a.off, a.reboot, a.list, a.status)?)
+}
+
 /// The actions of an agent, its parameters with whether each is required, and the one that takes the node.
 fn told(alloc: Global, agent: &Description) -> Result<String, NoMemory> {
-    let actions = &agent.actions;
-    let mut text = format!(in alloc; "{} {} {} ", actions.on, actions.off, actions.reboot)?;
-    text.push_str(format!(in alloc; "{} {} ", actions.list, actions.status)?.as_str())?;
+    let mut text = can(alloc, &agent.actions)?;
     for parameter in agent.parameters.as_slice() {
         text.push_str(parameter.name.as_str())?;
         text.push_str(if parameter.required { "!/" } else { "/" })?;
@@ -103,14 +117,21 @@ fn pair(alloc: Global, name: &str, value: &str) -> Result<Pair, NoMemory>
     })
 }
 
+/// The options that are sent for the node `n1` at a plug.
+fn sent_to(alloc: Global, port: &Pair, own: &Pairs) -> Result<String, NoMemory>
+    requires { AreSendable (port.now ∷ own.now) }
+{
+    let text = options_text(alloc, "off", Some("n1"), Some(port), own)?;
+    Ok(String::from_str(alloc, str::from_utf8(text.as_slice()).unwrap_or(""))?)
+}
+
 /// The options that are sent for the node `n1` at plug `2,3`, to an agent with options of its own.
 fn sent(alloc: Global) -> Result<String, NoMemory> {
     let mut own = Pairs::new(alloc);
     own.push(pair(alloc, "ip", " 10.0.0.1#=")?)?;
     own.push(pair(alloc, "state", "")?)?;
     let port = pair(alloc, "plug", "2,3")?;
-    let text = options_text(alloc, "off", Some("n1"), Some(&port), &own)?;
-    Ok(String::from_str(alloc, str::from_utf8(text.as_slice()).unwrap_or(""))?)
+    sent_to(alloc, &port, &own)
 }
 
 /// The options that are sent for no node.

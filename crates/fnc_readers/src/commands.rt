@@ -1,8 +1,8 @@
 // Lines of input: what each says, or the cause why it says nothing.
 
 use crate::joined::{joined, joined_pairs};
-use fnc_command::{Command, Mode, read_command, read_exit};
-use fnc_journal::{LevelTarget, Names, NoMemory, Pairs};
+use fnc_command::{Command, ExitRead, Mode, Read, read_command, read_exit};
+use fnc_journal::{Cause, LevelTarget, Names, NoMemory, Pairs};
 use fnc_outside::LineBuf;
 use fnc_rows::Row;
 use std::alloc::Global;
@@ -104,33 +104,50 @@ fn told_of_requests(alloc: Global, command: &Command) -> Result<String, NoMemory
     })
 }
 
+/// What a line that was read says: its moment, and the words of its command.
+fn told_at(alloc: Global, read: &Read) -> Result<String, NoMemory> {
+    let command = told(alloc, &read.command)?;
+    Ok(format!(in alloc; "{:?} {command}", read.moment)?)
+}
+
+/// Why a line says nothing.
+fn refused(alloc: Global, cause: Cause) -> Result<String, NoMemory> {
+    Ok(String::from_str(alloc, cause.word())?)
+}
+
 fn said(alloc: Global, line: &[u8], mode: Mode) -> Result<String, NoMemory> {
     match read_command(alloc, line, mode) {
-        Ok(read) => {
-            let command = told(alloc, &read.command)?;
-            Ok(format!(in alloc; "{:?} {command}", read.moment)?)
-        }
-        Err(cause) => Ok(String::from_str(alloc, cause.word())?),
+        Ok(read) => told_at(alloc, &read),
+        Err(cause) => refused(alloc, cause),
     }
+}
+
+fn length(alloc: Global, line: &[u8]) -> Result<String, NoMemory> {
+    Ok(format!(in alloc; "{}", line.len())?)
 }
 
 /// The cause of a line, or how long it is.
 fn long(alloc: Global, line: &[u8]) -> Result<String, NoMemory> {
-    Ok(match read_command(alloc, line, Mode::Live) {
-        Ok(_) => format!(in alloc; "{}", line.len())?,
-        Err(cause) => String::from_str(alloc, cause.word())?,
+    match read_command(alloc, line, Mode::Live) {
+        Ok(_) => length(alloc, line),
+        Err(cause) => refused(alloc, cause),
+    }
+}
+
+/// The exit that a line was read as and the bytes of its output, or that it says none.
+fn ended(alloc: Global, read: Option<ExitRead>, output: &[u8]) -> Result<String, NoMemory> {
+    Ok(match read {
+        Some(e) => { format!(in alloc; "{} {} {:?} {output:?}", e.moment, e.run.0, e.exit)? }
+        None => format!(in alloc; "none {output:?}")?,
     })
 }
 
-/// The exit that a line says and the bytes of its output, or that it says none.
+/// What is said of a line that is looked at for an exit alone.
 fn exit(alloc: Global, line: &[u8]) -> Result<String, NoMemory> {
     let mut out = LineBuf::with_size(alloc, 64)?;
     if line.len() > out.size() as usize {
         return Ok(String::from_str(alloc, "too long a row")?);
     }
     let read = read_exit(line, &mut out);
-    Ok(match read {
-        Some(e) => { format!(in alloc; "{} {} {:?} {:?}", e.moment, e.run.0, e.exit, out.bytes())? }
-        None => format!(in alloc; "none {:?}", out.bytes())?,
-    })
+    ended(alloc, read, out.bytes())
 }

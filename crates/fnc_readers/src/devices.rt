@@ -74,10 +74,25 @@ fn part(alloc: Global, d: &Definition, name: &str) -> Result<String, NoMemory> {
 fn by_options(alloc: Global, row: &Row) -> Result<String, NoMemory> {
     let options = pairs(alloc, row, 1)?;
     let agent = agent(alloc, "", None)?;
-    match define(alloc, &options, &agent) {
-        Ok(definition) => part(alloc, &definition, row.text(1)),
-        Err(fault) => Ok(format!(in alloc; "{fault}")?),
+    part_by(alloc, &options, &agent, row.text(1))
+}
+
+/// The part of a device that an option is for, or why options define none.
+fn part_by(
+    alloc: Global,
+    options: &Pairs,
+    agent: &Description,
+    name: &str,
+) -> Result<String, NoMemory> {
+    match define(alloc, options, agent) {
+        Ok(definition) => part(alloc, &definition, name),
+        Err(fault) => refused(alloc, &fault),
     }
+}
+
+/// Why options define no device.
+fn refused(alloc: Global, fault: &DefineFault) -> Result<String, NoMemory> {
+    Ok(format!(in alloc; "{fault}")?)
 }
 
 /// What is defined of the nodes, of the action `off` and of the agent's options.
@@ -97,19 +112,39 @@ fn described(alloc: Global, row: &Row) -> Result<String, NoMemory> {
         name => Some(Text::new(alloc, name)?),
     };
     let agent = agent(alloc, row.text(1), target)?;
-    match define(alloc, &options, &agent) {
+    whole_by(alloc, &options, &agent)
+}
+
+/// What options define of the nodes, of the action `off` and of the agent's options, or why they define nothing.
+fn whole_by(alloc: Global, options: &Pairs, agent: &Description) -> Result<String, NoMemory> {
+    match define(alloc, options, agent) {
         Ok(definition) => whole(alloc, &definition),
-        Err(fault) => Ok(format!(in alloc; "{fault}")?),
+        Err(fault) => refused(alloc, &fault),
     }
 }
 
 /// How many hosts and options of the agent are defined, or the fault.
 fn size(alloc: Global, options: &Pairs) -> Result<String, NoMemory> {
     let agent = agent(alloc, "", None)?;
-    match define(alloc, options, &agent) {
-        Ok(d) => Ok(format!(in alloc; "{} {}", d.hosts.as_slice().len(), d.own.as_slice().len())?),
-        Err(DefineFault::BadOption { .. }) => Ok(String::from_str(alloc, "an option")?),
-        Err(fault) => Ok(format!(in alloc; "{fault}")?),
+    size_by(alloc, options, &agent)
+}
+
+/// How many hosts and options of the agent are defined, or the fault; of an option that is bad only that it is one.
+fn size_by(alloc: Global, options: &Pairs, agent: &Description) -> Result<String, NoMemory> {
+    match define(alloc, options, agent) {
+        Ok(definition) => sizes(alloc, &definition),
+        Err(fault) => named(alloc, &fault),
+    }
+}
+
+fn sizes(alloc: Global, d: &Definition) -> Result<String, NoMemory> {
+    Ok(format!(in alloc; "{} {}", d.hosts.as_slice().len(), d.own.as_slice().len())?)
+}
+
+fn named(alloc: Global, fault: &DefineFault) -> Result<String, NoMemory> {
+    match fault {
+        DefineFault::BadOption { .. } => Ok(String::from_str(alloc, "an option")?),
+        _ => refused(alloc, fault),
     }
 }
 

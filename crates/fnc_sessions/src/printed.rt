@@ -22,28 +22,38 @@ fn piece(word: &str) -> Piece<'_> {
     }
 }
 
-/// What is printed of the pieces of a row from a place on, into a sink that may fail.
-fn pieces(alloc: Global, row: &Row, from: usize, torn: &[Torn]) -> Result<String, NoMemory> {
-    let mut sink = MemorySink::torn(alloc, 64, torn)?;
+/// The pieces of a row from a place on.
+fn pieces(alloc: Global, row: &Row, from: usize) -> Result<Vec<Piece<'_>>, NoMemory> {
     let mut pieces = Vec::new(alloc);
     for place in from..row.len() {
         pieces.push(piece(row.text(place)))?;
     }
-    let done = print_pieces(pieces.as_slice(), &mut sink);
+    Ok(pieces)
+}
+
+/// What is printed of pieces, into a sink that may fail.
+fn printed(alloc: Global, pieces: &[Piece<'_>], torn: &[Torn]) -> Result<String, NoMemory> {
+    let mut sink = MemorySink::torn(alloc, 64, torn)?;
+    let done = print_pieces(pieces, &mut sink);
     let text = str::from_utf8(sink.bytes()).unwrap_or("");
     Ok(format!(in alloc; "{done:?} {text}")?)
 }
 
-/// The journal that the words of a row spell.
-fn journal(alloc: Global, row: &Row) -> Result<Journal, EntryFault> {
-    let mut journal = Journal::with_limit(alloc, LEAST_JOURNAL)?;
-    for place in 1..row.len() {
-        let entry = read_entry(alloc, row.bytes(place))?;
-        if journal.len() < journal.limit() {
-            journal.push(entry);
-        }
+/// Enters the entry that a line spells, where there is room for it.
+fn enter(alloc: Global, journal: &mut Journal, line: &[u8]) -> Result<(), EntryFault> {
+    let entry = read_entry(alloc, line)?;
+    if journal.len() < journal.limit() {
+        journal.push(entry);
     }
-    Ok(journal)
+    Ok(())
+}
+
+/// Enters the entries that the words of a row spell.
+fn enter_all(alloc: Global, journal: &mut Journal, row: &Row) -> Result<(), EntryFault> {
+    for place in 1..row.len() {
+        enter(alloc, journal, row.bytes(place))?;
+    }
+    Ok(())
 }
 
 /// What is printed of a journal, and its end line.
@@ -60,19 +70,24 @@ fn lines(alloc: Global, journal: &Journal) -> Result<String, NoMemory> {
     }
 }
 
+/// What is printed of the journal that the words of a row spell, or why they spell none.
+fn journal(alloc: Global, row: &Row) -> Result<String, NoMemory> {
+    let mut journal = Journal::with_limit(alloc, LEAST_JOURNAL)?;
+    match enter_all(alloc, &mut journal, row) {
+        Ok(()) => lines(alloc, &journal),
+        Err(fault) => Ok(format!(in alloc; "{fault}")?),
+    }
+}
+
 /// What is said of a row: `pieces|PIECE|..`, `torn pieces|WRITE|KEPT|PIECE|..` where a write fails and keeps so many
 /// bytes, and `journal|ENTRY|..`.
 pub(crate) fn say(alloc: Global, row: &Row) -> Result<String, NoMemory> {
     match row.text(0) {
-        "pieces" => pieces(alloc, row, 1, &[]),
+        "pieces" => printed(alloc, &pieces(alloc, row, 1)?, &[]),
         "torn pieces" => {
             let (write, kept) = (row.number32(1), row.number32(2));
-            pieces(alloc, row, 3, &[Torn { write, kept }])
+            printed(alloc, &pieces(alloc, row, 3)?, &[Torn { write, kept }])
         }
-        "journal" => match journal(alloc, row) {
-            Ok(journal) => lines(alloc, &journal),
-            Err(fault) => Ok(format!(in alloc; "{fault}")?),
-        },
-        _ => Ok(String::from_str(alloc, "no such row")?),
+        _ => journal(alloc, row),
     }
 }

@@ -4,8 +4,6 @@
 #![tactic(auto)]
 
 mod confirmed;
-#[cfg(test)]
-mod constructors;
 mod deadlines;
 mod delays;
 mod faulty_inputs;
@@ -13,8 +11,6 @@ mod faulty_replies;
 mod faulty_starts;
 mod laws;
 mod limits;
-#[cfg(test)]
-mod many_requests;
 mod one_device;
 mod owed;
 mod queries;
