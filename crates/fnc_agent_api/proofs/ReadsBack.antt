@@ -25,7 +25,7 @@ both true b e = (refl, e)
 both false b e = cc
 
 -- what passes a test passes a weaker one
-all_weaker : (p q : ℕ → Bool) → ((b : ℕ) → p b ≡ true → q b ≡ true) → (bs : List ℕ) → list_all p bs ≡ true
+pub all_weaker : (p q : ℕ → Bool) → ((b : ℕ) → p b ≡ true → q b ≡ true) → (bs : List ℕ) → list_all p bs ≡ true
     → list_all q bs ≡ true
 all_weaker p q weaker [] e = refl
 all_weaker p q weaker (b ∷ bs) e =
@@ -38,11 +38,11 @@ at_all p (b ∷ bs) zero e l = (both (p b) (list_all p bs) e).0
 at_all p (b ∷ bs) (suc k) e l = at_all p bs k (both (p b) (list_all p bs) e).1 (omega arith)
 
 -- no byte of these is the separator
-abbrev Lacks : ℕ → List ℕ → Type 0
+abbrev pub Lacks : ℕ → List ℕ → Type 0
 Lacks c bs = list_all (λ b. not (eqb b c)) bs ≡ true
 
 -- a line that holds no line feed stands whole
-lines_of_line : (line rest : List ℕ) → Lacks 10 line → lines_of (line ++ 10 ∷ rest) ≡ line ∷ lines_of rest
+pub lines_of_line : (line rest : List ℕ) → Lacks 10 line → lines_of (line ++ 10 ∷ rest) ≡ line ∷ lines_of rest
 lines_of_line [] rest lacks = refl
 lines_of_line (b ∷ bs) rest lacks =
     let parts = both (not (eqb b 10)) (list_all (λ x. not (eqb x 10)) bs) lacks in
@@ -56,11 +56,11 @@ place c (b ∷ bs) back lacks =
     let parts = both (not (eqb b c)) (list_all (λ x. not (eqb x c)) bs) lacks in
     rw (parts.0, place c bs back parts.1, one-add) refl
 
-before_separator : (c : ℕ) (front back : List ℕ) → Lacks c front → before c (front ++ c ∷ back) ≡ front
+pub before_separator : (c : ℕ) (front back : List ℕ) → Lacks c front → before c (front ++ c ∷ back) ≡ front
 before_separator c front back lacks = ap (λ n. take n (front ++ c ∷ back)) (place c front back lacks)
     ∙ take-append_seam front (c ∷ back)
 
-after_separator : (c : ℕ) (front back : List ℕ) → Lacks c front → after c (front ++ c ∷ back) ≡ back
+pub after_separator : (c : ℕ) (front back : List ℕ) → Lacks c front → after c (front ++ c ∷ back) ≡ back
 after_separator c front back lacks =
     ap (λ n. drop (n + 1) (front ++ c ∷ back)) (place c front back lacks) ∙ drop-append-add front (c ∷ back) 1
 

@@ -11,6 +11,7 @@ mod meaning;
 mod option_lines;
 mod options;
 
+pub use cuts::cut;
 pub use description::{DescribeFault, Field, plain_description, read_description};
 pub use list_output::lists;
 pub use meaning::{Meaning, exit_meaning};

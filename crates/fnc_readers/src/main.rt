@@ -7,6 +7,7 @@ mod devices;
 mod hosts;
 mod joined;
 mod pieces;
+mod switches;
 
 use fnc_journal::NoMemory;
 use fnc_rows::{Reading, Row, print_table};
@@ -24,6 +25,7 @@ fn said(alloc: Global, row: &Row) -> Result<String, NoMemory> {
         "list" | "map" | "list size" | "map size" | "check" => hosts::say(alloc, row),
         "part" | "device" | "size" | "many" => devices::say(alloc, row),
         "timed" | "live" | "long" | "exit" => commands::say(alloc, row),
+        "switch" | "plugs" | "agent" => switches::say(alloc, row),
         _ => agents::say(alloc, row),
     }
 }

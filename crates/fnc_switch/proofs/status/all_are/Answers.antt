@@ -1,0 +1,10 @@
+use Rattle.std.proofs.Common.{rules, tests, lit<}
+use Rattle.std.proofs.lemmas.Iterator.Search.{all_from_yields_List}
+use Rattle.std.proofs.lemmas.Iterator.Splits.{YieldsList-from_str_split}
+use Rattle.fnc_switch.specs.Agents.{is_meant}
+use Rattle.fnc_switch.proofs.status.all_are.Goals as goal
+
+pub returns : goal.returns
+returns c = all_from_yields_List (is_meant c.args.on c.args.plugs.now) _ _ _ c.all.ensures.ran
+    (YieldsList-from_str_split 44 c.args.value.now (lit< tt) c.split.ensures.text c.split.ensures.has_more
+    c.split.ensures.pattern) (λ x b q k. search (rules, tests))
