@@ -1,7 +1,8 @@
 // What is said of a whole journal.
 
-ghost use Rattle.std.specs.Prelude.{◌≡◌, ◌↔◌};
+ghost use Rattle.std.specs.Prelude.{◌≡◌, ◌↔◌, ◌≤◌, length};
 ghost use Rattle.fnc_journal.specs.Lawful.{Lawful, fault};
+ghost use Rattle.fnc_journal.specs.Prefix.{prefix};
 ghost use Rattle.fnc_judge.specs.Verdicts.{IsLawful, fault_of};
 
 use crate::rules::broken;
@@ -22,7 +23,18 @@ pub fn judge(journal: &Journal) -> Verdict
     ensures lawful { IsLawful result ↔ Lawful journal.now.history }
     ensures fault { fault_of result ≡ fault journal.now.history }
 {
-    for index in 0..journal.len() {
+    judge_from(journal, 0)
+}
+
+/// Judges a journal whose first `from` entries are known to be lawful: these are not searched for a fault, and where they
+/// are all of it the answer comes at once.
+pub fn judge_from(journal: &Journal, from: u32) -> Verdict
+    requires within { from ≤ length journal.now.history }
+    requires begun { Lawful (prefix from journal.now.history) }
+    ensures lawful { IsLawful result ↔ Lawful journal.now.history }
+    ensures fault { fault_of result ≡ fault journal.now.history }
+{
+    for index in from..journal.len() {
         if let Some(rule) = broken(journal.entry(index), &Past::of(journal, index)) {
             return Verdict::Unlawful { index, rule };
         }

@@ -1,7 +1,7 @@
 -- That searches from the oldest entry on find what the definitions of a journal say.
 pub mod Prefixed
 pub mod Searches
-pub mod Leads
+pub mod Pointed
 pub mod Rising
 pub mod OldestLevels
 pub mod Looks

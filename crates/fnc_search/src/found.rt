@@ -4,7 +4,6 @@ ghost use Rattle.std.specs.Prelude.{◌≡◌, ◌<◌, Some, if◌then◌else�
 ghost use Rattle.std.specs.Option.{option_copied};
 ghost use Rattle.fnc_journal.specs.Found as Found;
 ghost use Rattle.fnc_journal.specs.Operations.{lead_of};
-ghost use Rattle.fnc_search.specs.Led.{lead_here};
 
 use crate::past::Past;
 use fnc_journal::{Entry, Event, Kind, Registration, Scope, Start};
@@ -57,12 +56,8 @@ fn registration_here(event: &Event, reg: u32) -> Option<&Registration>
 pub fn registration<'a>(past: &Past<'a>, reg: u32) -> Option<&'a Registration>
     ensures { option_copied result ≡ Found.registration reg past.now }
 {
-    for i in 0..past.len() {
-        if let Some(registration) = registration_here(&past.entry(i).event, reg) {
-            return Some(registration);
-        }
-    }
-    None
+    let at = past.device_at(reg)?;
+    registration_here(&past.entry(at).event, reg)
 }
 
 fn asked_here<'a>(entry: &'a Entry, before: Past<'a>, req: u32) -> Option<Asked<'a>>
@@ -94,40 +89,15 @@ fn asked_here<'a>(entry: &'a Entry, before: Past<'a>, req: u32) -> Option<Asked<
 pub fn request<'a>(past: &Past<'a>, req: u32) -> Option<Asked<'a>>
     ensures { result ≡ Found.asked req past.now }
 {
-    for i in 0..past.len() {
-        if let Some(asked) = asked_here(past.entry(i), past.before(i), req) {
-            return Some(asked);
-        }
-    }
-    None
-}
-
-fn lead_in(event: &Event, req: u32) -> Option<u32>
-    ensures { result ≡ lead_here req event.now }
-{
-    match event {
-        Event::Ask(request) => {
-            let request = request.get();
-            if req == request.req.0 {
-                Some(request.lead.0)
-            } else {
-                None
-            }
-        }
-        _ => None,
-    }
+    let at = past.ask_at(req)?;
+    asked_here(past.entry(at), past.before(at), req)
 }
 
 /// The operation that a request joined or began.
 pub fn lead(past: &Past<'_>, req: u32) -> Option<u32>
     ensures { result ≡ lead_of req past.now }
 {
-    for i in 0..past.len() {
-        if let Some(lead) = lead_in(&past.entry(i).event, req) {
-            return Some(lead);
-        }
-    }
-    None
+    Some(request(past, req)?.lead)
 }
 
 fn started_here(event: &Event, run: u32) -> Option<Start>
@@ -149,52 +119,20 @@ fn started_here(event: &Event, run: u32) -> Option<Start>
 pub fn start_of(past: &Past<'_>, run: u32) -> Option<Start>
     ensures { result ≡ Found.started run past.now }
 {
-    for i in 0..past.len() {
-        if let Some(start) = started_here(&past.entry(i).event, run) {
-            return Some(start);
-        }
-    }
-    None
-}
-
-fn is_exit_of(event: &Event, run: u32) -> bool
-    ensures { result ≡ Found.is_exit_of run event.now }
-{
-    match event {
-        Event::Exit(ended) => run == ended.run.0,
-        _ => false,
-    }
+    let at = past.start_at(run)?;
+    started_here(&past.entry(at).event, run)
 }
 
 /// Whether a run has had its exit.
 pub fn has_exit(past: &Past<'_>, run: u32) -> bool
     ensures { result ≡ Found.has_exit run past.now }
 {
-    for i in 0..past.len() {
-        if is_exit_of(&past.entry(i).event, run) {
-            return true;
-        }
-    }
-    false
-}
-
-fn is_reply_to(event: &Event, req: u32) -> bool
-    ensures { result ≡ Found.is_reply_to req event.now }
-{
-    match event {
-        Event::Reply(reply) => req == reply.req.0,
-        _ => false,
-    }
+    past.exit_at(run).is_some()
 }
 
 /// Whether a request has had its reply.
 pub fn is_answered(past: &Past<'_>, req: u32) -> bool
     ensures { result ≡ Found.is_answered req past.now }
 {
-    for i in 0..past.len() {
-        if is_reply_to(&past.entry(i).event, req) {
-            return true;
-        }
-    }
-    false
+    past.reply_at(req).is_some()
 }

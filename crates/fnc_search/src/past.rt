@@ -1,10 +1,12 @@
 // What lies before an entry of a journal.
 
-ghost use Rattle.std.specs.Prelude.{◌≡◌, ◌≤◌, ◌<◌, ◌^◌, Some, length};
+ghost use Rattle.std.specs.Prelude.{◌≡◌, ◌≤◌, ◌<◌, ◌^◌, IfSome, Some, length};
 ghost use Rattle.fnc_journal.specs.Found.{entry_at};
+ghost use Rattle.fnc_journal.specs.Links as Links;
 ghost use Rattle.fnc_journal.specs.Prefix.{prefix};
+ghost use Rattle.fnc_search.specs.Within.{within};
 
-use fnc_journal::{Entry, Journal};
+use fnc_journal::{Entry, Journal, Reg, Req, Run};
 use std::marker::Model;
 
 /// The first entries of a journal, as many as `len` says. Contracts see the list of them, the newest first.
@@ -76,5 +78,57 @@ impl<'a> Past<'a> {
             journal: self.journal,
             len: self.len,
         }
+    }
+
+    /// An index of the journal, where it is that of one of these entries.
+    fn within(&self, at: Option<u32>) -> Option<u32>
+        ensures { result ≡ within (length self.now) at }
+    {
+        let index = at?;
+        if index < self.len() {
+            Some(index)
+        } else {
+            None
+        }
+    }
+
+    /// Where the request of a number is asked first.
+    pub fn ask_at(&self, req: u32) -> Option<u32>
+        ensures at { result ≡ Links.ask_at req self.now }
+        ensures within { IfSome result (λ i. i < length self.now) }
+    {
+        self.within(self.journal.ask_at(Req(req)))
+    }
+
+    /// Where it is answered first.
+    pub fn reply_at(&self, req: u32) -> Option<u32>
+        ensures at { result ≡ Links.reply_at req self.now }
+        ensures within { IfSome result (λ i. i < length self.now) }
+    {
+        self.within(self.journal.reply_at(Req(req)))
+    }
+
+    /// Where the run of a number starts first.
+    pub fn start_at(&self, run: u32) -> Option<u32>
+        ensures at { result ≡ Links.start_at run self.now }
+        ensures within { IfSome result (λ i. i < length self.now) }
+    {
+        self.within(self.journal.start_at(Run(run)))
+    }
+
+    /// Where it ends first.
+    pub fn exit_at(&self, run: u32) -> Option<u32>
+        ensures at { result ≡ Links.exit_at run self.now }
+        ensures within { IfSome result (λ i. i < length self.now) }
+    {
+        self.within(self.journal.exit_at(Run(run)))
+    }
+
+    /// Where the registration of a number is made first.
+    pub fn device_at(&self, reg: u32) -> Option<u32>
+        ensures at { result ≡ Links.device_at reg self.now }
+        ensures within { IfSome result (λ i. i < length self.now) }
+    {
+        self.within(self.journal.device_at(Reg(reg)))
     }
 }

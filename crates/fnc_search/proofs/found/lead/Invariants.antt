@@ -1,8 +1,0 @@
-use Rattle.std.proofs.Common.{◌≡◌, None}
-use Rattle.fnc_journal.specs.Prefix.{prefix}
-use Rattle.fnc_journal.specs.Operations.{lead_of}
-use Rattle.fnc_search.proofs.found.lead.Given as goal
-
--- the entries so far do not ask it
-abbrev pub invariant-loop-i : goal.invariant-loop-i
-invariant-loop-i l = lead_of l.req (prefix l.i l.past) ≡ None

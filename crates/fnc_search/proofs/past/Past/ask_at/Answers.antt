@@ -1,0 +1,8 @@
+use Rattle.fnc_journal.specs.Found.{is_ask_of}
+use Rattle.fnc_search.proofs.Pointed.{points}
+use Rattle.fnc_search.proofs.past.Past.ask_at.Goals as goal
+
+pub returns-clause-at : goal.returns-clause-at
+returns-clause-at c =
+    points (is_ask_of c.args.req) c.self.inside.journal.now.history c.args.self.now c.self.inside.len c.ask_at.result
+    c.within.result c.self.invariant c.self.view_is c.ask_at.ensures c.within.ensures
