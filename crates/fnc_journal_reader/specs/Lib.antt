@@ -3,3 +3,4 @@ pub mod Cuts
 pub mod Reads
 pub mod Values
 pub mod Entries
+pub mod Spells

@@ -12,4 +12,4 @@ mod values;
 
 pub use bounds::is_within;
 pub use fault::EntryFault;
-pub use read::{read_entry, spelled_once};
+pub use read::{read_entry, reads_spelling, spelled_once};

@@ -1,11 +1,12 @@
 // Lines of a journal's text, read as entries.
 
-ghost use Rattle.std.specs.Prelude.{◌≡◌, IfOk, IsTrue, Ok};
+ghost use Rattle.std.specs.Prelude.{◌≡◌, ℕ, List, IfOk, IsTrue, Ok};
 ghost use Rattle.fnc_journal.specs.declared.entry.Entry.{Entry};
 ghost use Rattle.fnc_journal.specs.EntryBounds.{is_within};
 ghost use Rattle.fnc_journal_reader.specs.Cuts.{words};
 ghost use Rattle.fnc_journal_reader.specs.Entries as Entries;
 ghost use Rattle.fnc_journal_reader.specs.Reads.{Gives};
+ghost use Rattle.fnc_journal_reader.specs.Spells.{entry_in};
 ghost use Rattle.fnc_journal_text.specs.Spelled.{line_of};
 ghost use Rattle.fnc_journal_reader.specs.Typed.{IsTyped};
 
@@ -276,6 +277,7 @@ pub fn read_entry(alloc: Global, line: &[u8]) -> Result<Entry, EntryFault>
     ensures spelled { IfOk result (λ e. (line_of e ≡ line.now) × IsTrue (is_within e)) }
     ensures typed { IfOk result IsTyped }
     ensures back { (e : Entry) → IsTyped e → IsTrue (is_within e) → line_of e ≡ line.now → Gives result (Ok e) }
+    ensures reads { Gives result (entry_in line.now) }
 {
     let entry = read_words(alloc, line)?;
     if !is_within(&entry) {
@@ -291,4 +293,11 @@ pub fn read_entry(alloc: Global, line: &[u8]) -> Result<Entry, EntryFault>
 pub fn spelled_once()
     ensures { (d e : Entry) → IsTyped d → IsTrue (is_within d) → IsTyped e → IsTrue (is_within e)
         → line_of d ≡ line_of e → d ≡ e }
+{}
+
+/// A line is read as an entry exactly where it is the line of that entry, within the bounds.
+pub fn reads_spelling()
+    ensures read { (e : Entry) → IsTyped e → IsTrue (is_within e) → entry_in (line_of e) ≡ Ok e }
+    ensures spelled { (line : List ℕ) (e : Entry) → entry_in line ≡ Ok e
+        → IsTyped e × IsTrue (is_within e) × (line_of e ≡ line) }
 {}

@@ -11,4 +11,4 @@ mod words;
 
 pub use form::Form;
 pub use paper::{head_line, print_entry, print_head, print_one, print_spelling};
-pub use words::{check_word, phase_word};
+pub use words::{answer_piece, answer_word, check_word, phase_word};

@@ -51,8 +51,8 @@ pub(crate) fn exit_piece(exit: Exit) -> Piece<'static>
     }
 }
 
-/// The second word of an answer, after `ok` or `failed`.
-pub(crate) fn answer_piece(answer: Answer) -> Piece<'static>
+/// The second word of an answer, after `ok` or `failed`: the level that passed, `confirmed`, or why it failed.
+pub fn answer_piece(answer: Answer) -> Piece<'static>
     ensures { piece_text result ≡ Spelled.answer_text answer }
 {
     match answer {
@@ -64,8 +64,8 @@ pub(crate) fn answer_piece(answer: Answer) -> Piece<'static>
     }
 }
 
-/// The first word of an answer.
-pub(crate) fn answer_word(answer: Answer) -> &'static str
+/// The first word of an answer: `ok` or `failed`.
+pub fn answer_word(answer: Answer) -> &'static str
     ensures { result.now ≡ Spelled.answer_word answer }
 {
     match answer {

@@ -32,6 +32,7 @@ use Rattle.std.proofs.Common.{
 use Rattle.std.specs.Prelude.{filter, unwrap_or, IfSome}
 use Rattle.std.proofs.lemmas.List.{reverse-append}
 use Rattle.fnc_journal.specs.declared.entry.Entry.{Entry}
+use Rattle.fnc_journal.specs.declared.limits.TheConstants.{LONGEST_LINE}
 use Rattle.fnc_journal.specs.declared.outcome.Full.{Full}
 use Rattle.fnc_journal.specs.declared.outcome.Outcome.{Outcome}
 use Rattle.fnc_journal.specs.History.{History, Journaled}
@@ -63,10 +64,10 @@ use Rattle.fnc_replay.specs.Heard.{Heard, HeardSoFar, HearsOn, HasInputs}
 use Rattle.fnc_replay.specs.Polls.{GaveLine, GaveNothing, Serves, Takes}
 use Rattle.fnc_replay.specs.declared.taken.Taken.{Taken}
 use Rattle.fnc_replay.specs.Rests.{ServesLine}
-use Rattle.fnc_replay.specs.Read.{Gave}
+use Rattle.fnc_told.specs.Read.{Gave}
 use Rattle.fnc_replay.specs.Timed.{LacksRoom, nothing, timed}
-use Rattle.fnc_replay.specs.SourceAndSink.{Change, SinkTold, SourceTold, change}
-use Rattle.fnc_replay.proofs.Reading.{gave-gave, gave-none}
+use Rattle.fnc_told.specs.SourceAndSink.{Change, SinkTold, SourceTold, change}
+use Rattle.fnc_told.proofs.Reading.{gave-gave, gave-none}
 use Rattle.fnc_replay.specs.Session.{Closes, EndsWriting, IsWriteFault, after_failed_flush, cored}
 use Rattle.fnc_replay.proofs.Resting.{AreOutputs, last_input-outputs, outputs-replies, outputs-starts}
 
@@ -207,7 +208,7 @@ lacks-room line lines full old new a l k =
 
 -- what was served is what the source gave
 pub takes-line : (t : Taken) (line : Happening) (source : Change SourceTold) (old new : Cored) → is_line line ≡ true →
-    Gave source (line ∷ []) → Serves t line old new → Takes t source old new
+    Gave LONGEST_LINE source (line ∷ []) → Serves t line old new → Takes t source old new
 takes-line Taken.Served line source old new i g s =
     record { line = line; is_line_given = i; gave = g; does = s }
 takes-line (Taken.Full full) line source old new i g s =
@@ -220,7 +221,7 @@ takes-line Taken.Failed line source old new i g s = absurd s
 pub heard-none : (told : SourceTold) (v : Cored) → v.history ≡ [] → v.last ≡ 0 → HeardSoFar (change told told) 0 v
 heard-none told v h l = record {
   events = [];
-  gave = gave-none told;
+  gave = gave-none LONGEST_LINE told;
   polled = refl;
   inputs = subst (λ (x : History). AreLines (timed v.limit) x []) (sym h) refl;
   last = ap last_come h ∙ sym l;
@@ -228,12 +229,12 @@ heard-none told v h l = record {
 
 -- no line was there yet
 heard-nothing : (start : SourceTold) (source : Change SourceTold) (made : ℕ) (old new : Cored) →
-    HeardSoFar (change start source.before) made old → new ≡ old → Gave source (Happening.Again ∷ []) →
+    HeardSoFar (change start source.before) made old → new ≡ old → Gave LONGEST_LINE source (Happening.Again ∷ []) →
     HeardSoFar (change start source.after) (made + 1) new
 heard-nothing start source made old new k e g =
     subst (λ (v : Cored). HeardSoFar (change start source.after) (made + 1) v) (sym e) (record {
       events = k.events ++ Happening.Again ∷ [];
-      gave = gave-gave start source k.events (Happening.Again ∷ []) k.gave g;
+      gave = gave-gave LONGEST_LINE start source k.events (Happening.Again ∷ []) k.gave g;
       polled = let n = length-append k.events (Happening.Again ∷ []) in let m = k.polled in omega (arith, n, m);
       inputs = subst (AreLines (timed old.limit) old.history) (sym (newest-last k.events Happening.Again)) k.inputs;
       last = k.last;
@@ -245,7 +246,7 @@ heard-line : (start : SourceTold) (source : Change SourceTold) (made : ℕ) (old
     HeardSoFar (change start source.after) (made + 1) new
 heard-line start source made old new k g = record {
   events = k.events ++ g.line ∷ [];
-  gave = gave-gave start source k.events (g.line ∷ []) k.gave g.gave;
+  gave = gave-gave LONGEST_LINE start source k.events (g.line ∷ []) k.gave g.gave;
   polled = let n = length-append k.events (g.line ∷ []) in let m = k.polled in omega (arith, n, m);
   inputs =
       subst (AreLines (timed new.limit) new.history) (sym (newest-line k.events g.line g.is_line_given))
@@ -272,7 +273,7 @@ hears-on (Some (Outcome.BadEntry line)) source made sink new k f = absurd f
 -- after a poll that found no line
 pub heard-again : (r : Option Outcome) (start : SourceTold) (source : Change SourceTold) (made : ℕ)
     (sink : Change SinkTold) (old new : Cored) → HeardSoFar (change start source.before) made old → new ≡ old →
-    Gave source (Happening.Again ∷ []) → IfSome r (λ o. IsWriteFault o sink) →
+    Gave LONGEST_LINE source (Happening.Again ∷ []) → IfSome r (λ o. IsWriteFault o sink) →
     HearsOn r (change start source.after) (made + 1) new
 heard-again r start source made sink old new k e g f =
     hears-on r (change start source.after) (made + 1) sink new (heard-nothing start source made old new k e g) f
@@ -292,7 +293,7 @@ pub heard-full : (start : SourceTold) (source : Change SourceTold) (made : ℕ) 
     Heard (Outcome.JournalFull full) (change start source.after) (made + 1) new
 heard-full start source made full old new k g = record {
   events = k.events ++ g.line ∷ [];
-  gave = gave-gave start source k.events (g.line ∷ []) k.gave g.gave;
+  gave = gave-gave LONGEST_LINE start source k.events (g.line ∷ []) k.gave g.gave;
   polled = let n = length-append k.events (g.line ∷ []) in let m = k.polled in omega (arith, n, m);
   inputs =
       subst (λ (lines : List Happening). NewestFindsNoRoom (timed new.limit) lines new full)
@@ -310,8 +311,8 @@ heard-end o start source made sink old new k e g f =
     events : List Happening
     events = k.events ++ []
 
-    gave : Gave (change start source.after) events
-    gave = gave-gave start source k.events [] k.gave g
+    gave : Gave LONGEST_LINE (change start source.after) events
+    gave = gave-gave LONGEST_LINE start source k.events [] k.gave g
 
     polled : length events + 1 ≡ made + 1
     polled =
@@ -340,7 +341,7 @@ pub heard-fault : (start : SourceTold) (source : Change SourceTold) (made : ℕ)
 heard-fault start source made old new k e g =
     subst (λ (v : Cored). Heard Outcome.ReadFault (change start source.after) (made + 1) v) (sym e) (record {
       events = k.events ++ [];
-      gave = gave-gave start source k.events [] k.gave g;
+      gave = gave-gave LONGEST_LINE start source k.events [] k.gave g;
       polled =
           let n : length (k.events ++ []) ≡ length k.events = ap length (append-nil k.events) in
           let m = k.polled in

@@ -4,6 +4,5 @@ pub mod Resting
 pub mod Growing
 pub mod Hearing
 pub mod Writing
-mod Reading
 mod Rooms
 mod Papers

@@ -19,6 +19,7 @@ use Rattle.fnc_core.specs.Cored.{Cored, IsFull, Sound, Starts}
 use Rattle.fnc_core.specs.declared.change.Started.{Started}
 use Rattle.fnc_command.specs.declared.command.Mode.{Mode}
 use Rattle.fnc_desk.proofs.Counting.{given-of_line}
+use Rattle.fnc_told.specs.Held.{SinkFaulted}
 use Rattle.fnc_replay.specs.Timed.{LacksRoom, TakesLine, nothing}
 use Rattle.fnc_replay.specs.Rests.{Rests, AreStarts, StartsSome, StartsAll, ServesLine}
 use Rattle.fnc_replay.specs.Session.{
@@ -29,12 +30,11 @@ use Rattle.fnc_replay.specs.Session.{
   HasCause,
   IsServed,
   PollCounts,
-  SinkFaulted,
   Turns,
   after_failed_flush,
   cored,
 }
-use Rattle.fnc_replay.specs.SourceAndSink.{Change, SinkTold, SourceTold, change}
+use Rattle.fnc_told.specs.SourceAndSink.{Change, SinkTold, SourceTold, change}
 use Rattle.fnc_outside.specs.Events.{Happening}
 use Rattle.fnc_outside.proofs.Telling.{rose-then, then-rose}
 

@@ -10,9 +10,10 @@ use Rattle.fnc_outside.specs.Told.{Gains, Keeps}
 use Rattle.fnc_outside.specs.Writes.{AppendsPart, HoldsPart}
 use Rattle.fnc_outside.proofs.Telling.{gains-holds, gains-keeps, holds-appended, holds-holds, holds-keeps, holds-more}
 use Rattle.fnc_outside.proofs.Telling.{rose-then, then-rose}
-use Rattle.fnc_replay.specs.Session.{Holds, HoldsFront, Printed, SinkFaulted, Wrote, after_failed_flush, last_line}
+use Rattle.fnc_told.specs.Held.{Holds, HoldsFront, SinkFaulted}
+use Rattle.fnc_replay.specs.Session.{Printed, Wrote, after_failed_flush, last_line}
 use Rattle.fnc_replay.specs.Session.{whole_text}
-use Rattle.fnc_replay.specs.SourceAndSink.{SinkTold, change}
+use Rattle.fnc_told.specs.SourceAndSink.{SinkTold, change}
 
 -- all of a text was printed since the start, or a part from the front of it
 pub printed-full : {T E : Type 0} (r : Result T E) (start before after : SinkTold) (text : List ℕ) →

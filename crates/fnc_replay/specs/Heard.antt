@@ -1,11 +1,12 @@
 -- What a session took of its source, and that the inputs of its journal are those of the lines that came.
 use Rattle.std.specs.Prelude.{ℕ, ◌≡◌, ◌+◌, ◌⊎◌, List, length, Option, Some, None}
+use Rattle.fnc_journal.specs.declared.limits.TheConstants.{LONGEST_LINE}
 use Rattle.fnc_journal.specs.declared.outcome.Outcome.{Outcome}
 use Rattle.fnc_outside.specs.Events.{Happening}
 use Rattle.fnc_core.specs.Cored.{Cored}
 use Rattle.fnc_replay.specs.Timed.{timed}
-use Rattle.fnc_replay.specs.Read.{Gave}
-use Rattle.fnc_replay.specs.SourceAndSink.{Change, SourceTold}
+use Rattle.fnc_told.specs.Read.{Gave}
+use Rattle.fnc_told.specs.SourceAndSink.{Change, SourceTold}
 use Rattle.fnc_desk.specs.Lines.{AreLines, NewestFindsNoRoom, last_come, newest_lines}
 
 -- Each poll gave an event, but for a last one that found the source at its end or failed. A write fails after either.
@@ -24,14 +25,14 @@ HasInputs _ lines v = AreLines (timed v.limit) v.history lines
 -- gave its input entry.
 pub record Heard (outcome : Outcome) (source : Change SourceTold) (polls : ℕ) (v : Cored) : Type 0 where
   pub events : List Happening
-  pub gave : Gave source events
+  pub gave : Gave LONGEST_LINE source events
   pub polled : HasPolled outcome (length events) polls
   pub inputs : HasInputs outcome (newest_lines events) v
 
 -- between two polls: each poll gave an event, and the last moment is that of the last input
 pub record HeardSoFar (source : Change SourceTold) (polls : ℕ) (v : Cored) : Type 0 where
   pub events : List Happening
-  pub gave : Gave source events
+  pub gave : Gave LONGEST_LINE source events
   pub polled : length events ≡ polls
   pub inputs : AreLines (timed v.limit) v.history (newest_lines events)
   pub last : last_come v.history ≡ v.last

@@ -1,6 +1,4 @@
 pub mod Timed
-pub mod SourceAndSink
-pub mod Read
 pub mod Room
 pub mod Rests
 pub mod Session

@@ -6,31 +6,13 @@ use Rattle.fnc_journal.specs.Line.{end_line}
 use Rattle.fnc_journal.specs.Lawful.{Lawful, Calm, last_moment}
 use Rattle.fnc_journal.specs.Operations.{settled}
 use Rattle.fnc_journal.specs.Driven.{Driven}
-use Rattle.fnc_outside.specs.Events.{Happening}
-use Rattle.fnc_outside.specs.Faults.{Rose}
-use Rattle.fnc_outside.specs.Told.{Gains}
-use Rattle.fnc_outside.specs.Writes.{HoldsPart}
 use Rattle.fnc_journal_text.specs.declared.form.Form.{Form}
 use Rattle.fnc_journal_text.specs.Paper.{text}
 use Rattle.fnc_core.specs.Cored.{Cored, IsFull}
 use Rattle.fnc_replay.specs.Rests.{Rests}
-use Rattle.fnc_replay.specs.SourceAndSink.{Change, SinkTold, SourceTold}
-
--- the text is held, sent on or not
-abbrev pub Holds : Change SinkTold → List ℕ → Type 0
-Holds sink text = Gains sink.before.held sink.after.held text
-
--- all of the text is held and was sent on
-abbrev pub SentOn : Change SinkTold → List ℕ → Type 0
-SentOn sink text = Holds sink text × (sink.after.unsent ≡ 0)
-
--- of what was held before and of the text a part from the front is held
-abbrev pub HoldsFront : Change SinkTold → List ℕ → Type 0
-HoldsFront sink text = HoldsPart sink.before.held sink.after.held text
-
--- a write or a flush failed
-abbrev pub SinkFaulted : Change SinkTold → Type 0
-SinkFaulted sink = Rose sink.before.faults sink.after.faults
+use Rattle.fnc_told.specs.Held.{Holds, HoldsFront, SentOn, SinkFaulted}
+use Rattle.fnc_told.specs.Read.{IsOver, SourceFaulted}
+use Rattle.fnc_told.specs.SourceAndSink.{Change, SinkTold, SourceTold}
 
 -- what is written after the text of a journal: the answers end with the end line
 abbrev pub last_line : Form → History → List ℕ
@@ -73,15 +55,6 @@ after_failed_flush outcome = outcome
 -- what the last flush makes of an outcome
 abbrev pub Closes : Outcome → Outcome → Change SinkTold → Type 0
 Closes outcome closed sink = (closed ≡ outcome) ⊎ ((closed ≡ after_failed_flush outcome) × SinkFaulted sink)
-
--- nothing is left, where the source tells what is
-abbrev pub IsOver : Option (List Happening) → Type 0
-IsOver None = Unit {0}
-IsOver (Some events) = events ≡ []
-
--- a read failed
-abbrev pub SourceFaulted : Change SourceTold → Type 0
-SourceFaulted source = Rose source.before.faults source.after.faults
 
 -- Why a session ended. The journal is the one that it hands back, of which a full one is said to be full.
 abbrev pub EndsBy : Outcome → Change SourceTold → Change SinkTold → Cored → Type 0

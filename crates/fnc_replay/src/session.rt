@@ -3,7 +3,7 @@
 ghost use Rattle.std.specs.Prelude.{◌≡◌, ◌≤◌, ◌<◌, ◌^◌, [], IfSome, IfNone};
 ghost use Rattle.fnc_outside.specs.Told.{Gains};
 ghost use Rattle.fnc_replay.specs.Session.{Wrote, HasCause, IsComplete, IsServed, cored};
-ghost use Rattle.fnc_replay.specs.SourceAndSink.{change, source_told, sink_told};
+ghost use Rattle.fnc_told.specs.SourceAndSink.{change, source_told, sink_told};
 ghost use Rattle.fnc_replay.specs.Heard.{Heard};
 ghost use Rattle.fnc_replay.specs.Room.{KeepsRoom};
 

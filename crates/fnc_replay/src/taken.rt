@@ -4,7 +4,7 @@ ghost use Rattle.std.specs.Prelude.{◌≤◌, ◌≡◌, ℕ, [], length};
 ghost use Rattle.fnc_journal.specs.declared.limits.TheConstants.{LONGEST_LINE};
 ghost use Rattle.fnc_outside.specs.Events.{Happening};
 ghost use Rattle.fnc_replay.specs.Polls.{Serves, Takes};
-ghost use Rattle.fnc_replay.specs.SourceAndSink.{change, source_told};
+ghost use Rattle.fnc_told.specs.SourceAndSink.{change, source_told};
 
 use crate::starts::start_all;
 use crate::timed::Timed;

@@ -19,7 +19,7 @@ ghost use Rattle.fnc_replay.specs.Session.{
   after_failed_flush,
 };
 ghost use Rattle.fnc_replay.specs.Room.{FoundRoom};
-ghost use Rattle.fnc_replay.specs.SourceAndSink.{SinkTold, SourceTold, change, sink_told, source_told};
+ghost use Rattle.fnc_told.specs.SourceAndSink.{SinkTold, SourceTold, change, sink_told, source_told};
 ghost use Rattle.fnc_replay.specs.Heard.{HeardSoFar, HearsOn};
 
 use crate::printed::{print_last, print_more};

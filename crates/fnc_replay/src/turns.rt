@@ -6,7 +6,7 @@ ghost use Rattle.fnc_journal.specs.Driven.{Driven};
 ghost use Rattle.fnc_replay.specs.Heard.{Heard};
 ghost use Rattle.fnc_replay.specs.Room.{FoundRoom};
 ghost use Rattle.fnc_replay.specs.Session.{EndsSession, Printed};
-ghost use Rattle.fnc_replay.specs.SourceAndSink.{change, source_told, sink_told};
+ghost use Rattle.fnc_told.specs.SourceAndSink.{change, source_told, sink_told};
 
 use crate::timed::Timed;
 use crate::turn::{turn, write_head};

@@ -1,8 +1,9 @@
 // Sessions of lines: what each writes and how it ends, on sources and sinks that wait and fail and on lines that are
-// cut, what agents are run with, what sources and sinks give and hold, and what is printed of pieces and of a journal:
-// a table on standard input, each row printed with what is said of it.
+// cut, texts of journals that are audited, what agents are run with, what sources and sinks give and hold, and what is
+// printed of pieces and of a journal: a table on standard input, each row printed with what is said of it.
 #![tactic(auto)]
 
+mod audited;
 mod failing;
 mod gives;
 mod holds;
@@ -31,6 +32,7 @@ struct Sessions {
 fn said(alloc: Global, desk: &mut Desk, row: &Row) -> Result<String, NoMemory> {
     match row.text(0) {
         "replay" | "stream" => replayed::say(alloc, row),
+        "audit" | "history" | "passes" => audited::say(alloc, row),
         "failing polls" | "torn writes" | "cut lines" | "idle" => failing::say(alloc, row),
         "timed" | "live" | "line" | "finish" => jobs::say(alloc, desk, row),
         "source" | "reader" => gives::say(alloc, row),

@@ -1,3 +1,8 @@
 -- Proved here: what the words of a command say.
-mod Values
-mod Sessions
+mod Reading
+mod Places
+mod Finding
+mod Making
+mod Numbers
+mod Flags
+mod Refusing

@@ -1,1 +1,4 @@
+pub mod Arguments
+pub mod Making
+pub mod Values
 pub mod Commands

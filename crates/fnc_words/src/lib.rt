@@ -2,8 +2,15 @@
 // the words after it are read by `clap`.
 #![tactic(auto)]
 
+mod argument;
+mod audit;
 mod command;
+mod inquiry;
+mod matching;
 mod session;
+mod value;
 
+pub use audit::Audit;
 pub use command::{Command, Name, WordsFault, read_words};
+pub use inquiry::Inquiry;
 pub use session::Session;

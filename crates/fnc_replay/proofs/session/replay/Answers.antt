@@ -4,7 +4,7 @@ use Rattle.fnc_journal.specs.Owed.{owed}
 use Rattle.fnc_journal.specs.History.{History}
 use Rattle.fnc_replay.specs.Room.{FoundRoom}
 use Rattle.fnc_replay.specs.Session.{IsServed, PollCounts, Wrote}
-use Rattle.fnc_replay.specs.SourceAndSink.{change, sink_told, source_told}
+use Rattle.fnc_told.specs.SourceAndSink.{change, sink_told, source_told}
 use Rattle.fnc_replay.proofs.Resting.{cause-closed, cause-cored, complete-of, served-driven}
 use Rattle.fnc_replay.proofs.Hearing.{heard-closed, heard-cored}
 use Rattle.fnc_replay.proofs.session.replay.Goals as goal

@@ -2,7 +2,7 @@
 use Rattle.std.proofs.Common.{sym, subst}
 use Rattle.fnc_journal.specs.declared.outcome.Outcome.{Outcome}
 use Rattle.fnc_replay.specs.Session.{Wrote}
-use Rattle.fnc_replay.specs.SourceAndSink.{change, sink_told}
+use Rattle.fnc_told.specs.SourceAndSink.{change, sink_told}
 use Rattle.fnc_replay.proofs.Writing.{wrote-failed, wrote-sent}
 use Rattle.fnc_replay.proofs.turn.close.Goals as goal
 

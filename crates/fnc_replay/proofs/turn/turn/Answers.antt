@@ -6,7 +6,7 @@ use Rattle.fnc_journal.specs.History.{History}
 use Rattle.fnc_journal.specs.Prefix.{prefix}
 use Rattle.fnc_core.specs.Cored.{Cored}
 use Rattle.fnc_replay.specs.Session.{HoldsSoFar, Printed, Puts}
-use Rattle.fnc_replay.specs.SourceAndSink.{change, sink_told, source_told}
+use Rattle.fnc_told.specs.SourceAndSink.{change, sink_told, source_told}
 use Rattle.fnc_replay.proofs.Growing.{grows-served, grows-passed, prefix-grown}
 use Rattle.fnc_replay.specs.Room.{FoundRoom}
 use Rattle.fnc_replay.proofs.Rooms.{room-passed, room-served}

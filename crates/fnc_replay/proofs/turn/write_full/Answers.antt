@@ -1,6 +1,6 @@
 -- All of the text was printed, or a write failed.
 use Rattle.fnc_journal_text.specs.Paper.{text}
-use Rattle.fnc_replay.specs.SourceAndSink.{sink_told}
+use Rattle.fnc_told.specs.SourceAndSink.{sink_told}
 use Rattle.fnc_replay.proofs.Writing.{printed-full}
 use Rattle.fnc_replay.proofs.turn.write_full.Goals as goal
 

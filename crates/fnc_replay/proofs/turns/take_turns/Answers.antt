@@ -8,7 +8,7 @@ use Rattle.fnc_replay.specs.Heard.{Heard}
 use Rattle.fnc_replay.specs.Rests.{Rests}
 use Rattle.fnc_replay.specs.Room.{FoundRoom}
 use Rattle.fnc_replay.specs.Session.{HoldsSoFar, PollCounts}
-use Rattle.fnc_replay.specs.SourceAndSink.{change, sink_told, source_told}
+use Rattle.fnc_told.specs.SourceAndSink.{change, sink_told, source_told}
 use Rattle.fnc_replay.proofs.Resting.{cause-of, driven-rests}
 use Rattle.fnc_replay.proofs.Hearing.{heard-budget, heard-none, opened}
 use Rattle.fnc_replay.proofs.turns.take_turns.Goals as goal

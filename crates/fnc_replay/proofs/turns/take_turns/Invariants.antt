@@ -4,7 +4,7 @@ use Rattle.fnc_replay.specs.Rests.{Rests}
 use Rattle.fnc_replay.specs.Room.{FoundRoom}
 use Rattle.fnc_replay.specs.Heard.{HeardSoFar}
 use Rattle.fnc_replay.specs.Session.{HoldsSoFar}
-use Rattle.fnc_replay.specs.SourceAndSink.{change, sink_told, source_told}
+use Rattle.fnc_told.specs.SourceAndSink.{change, sink_told, source_told}
 use Rattle.fnc_replay.proofs.turns.take_turns.Given as goal
 
 -- the session rests, all lines so far are written, and each line gave its input and found its room

@@ -1,0 +1,3 @@
+pub mod SourceAndSink
+pub mod Read
+pub mod Held
