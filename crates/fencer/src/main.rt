@@ -2,7 +2,8 @@
 #![tactic(auto)]
 
 use fnc_cli::run_tool;
-use fnc_journal::Outcome;
+use fnc_journal::{NoMemory, Outcome};
+use fnc_outside::Source;
 use fnc_streams::{StreamSink, StreamSource};
 use std::io::ErrorKind;
 use std::process::ExitCode;
@@ -13,24 +14,36 @@ fn words(rt: &HostRuntime) -> io::Result<Vec<String>> {
     Ok(env::args(rt)?.skip(1).collect(rt.alloc())?)
 }
 
-/// Runs the command on standard input and standard output.
+/// What a command line comes to that cannot be read.
+fn unread(error: &io::Error) -> Outcome {
+    match error.kind() {
+        ErrorKind::OutOfMemory => Outcome::NoMemory,
+        _ => Outcome::Usage,
+    }
+}
+
+/// Runs the command of these words on a source, and standard output.
+fn run_on<S: Source + Drop>(rt: &HostRuntime, words: &[String], source: S) -> Outcome {
+    match StreamSink::new(rt.alloc(), io::writer(rt)) {
+        Ok(sink) => run_tool(rt.alloc(), words, source, sink).outcome,
+        Err(NoMemory) => Outcome::NoMemory,
+    }
+}
+
+/// Runs the command of these words on standard input and standard output.
+fn run_words(rt: &HostRuntime, words: &[String]) -> Outcome {
+    match StreamSource::new(rt.alloc(), rt.reader()) {
+        Ok(source) => run_on(rt, words, source),
+        Err(NoMemory) => Outcome::NoMemory,
+    }
+}
+
+/// Runs the command of the program's own words.
 fn run(rt: &HostRuntime) -> Outcome {
-    let words = match words(rt) {
-        Ok(words) => words,
-        Err(error) => {
-            if error.kind() == ErrorKind::OutOfMemory {
-                return Outcome::NoMemory;
-            }
-            return Outcome::Usage;
-        }
-    };
-    let Ok(source) = StreamSource::new(rt.alloc(), rt.reader()) else {
-        return Outcome::NoMemory;
-    };
-    let Ok(sink) = StreamSink::new(rt.alloc(), io::writer(rt)) else {
-        return Outcome::NoMemory;
-    };
-    run_tool(rt.alloc(), words.as_slice(), source, sink).outcome
+    match words(rt) {
+        Ok(words) => run_words(rt, words.as_slice()),
+        Err(error) => unread(&error),
+    }
 }
 
 /// Says on standard error how a command ended, unless it did all that it was to do.

@@ -28,26 +28,55 @@ fn passes(alloc: Global, count: u32, last: &[u8]) -> Result<Vec<u8>, NoMemory> {
     Ok(text)
 }
 
+/// How the audit of a text ended, and what it wrote.
+fn judged(alloc: Global, text: &[u8]) -> Result<String, NoMemory> {
+    let source = MemorySource::new(alloc, text, &[])?;
+    let sink = MemorySink::new(alloc, ROOM, &[])?;
+    told(alloc, &audit(alloc, source, sink, LEAST_JOURNAL, 100_000))
+}
+
 /// What is said of a text of many entries.
 fn on_passes(alloc: Global, row: &Row) -> Result<String, NoMemory> {
     let text = passes(alloc, row.number32(1), row.bytes(2))?;
-    let source = MemorySource::new(alloc, text.as_slice(), &[])?;
-    let sink = MemorySink::new(alloc, ROOM, &[])?;
-    told(alloc, &audit(alloc, source, sink, LEAST_JOURNAL, 100_000))
+    judged(alloc, text.as_slice())
+}
+
+/// What the command of a row comes to on this source and this sink.
+fn run(
+    alloc: Global,
+    row: &Row,
+    source: MemorySource,
+    sink: MemorySink,
+) -> Audited<MemorySource, MemorySink> {
+    let allowed = u64::from(row.number32(1));
+    match row.text(0) {
+        "audit" => audit(alloc, source, sink, LEAST_JOURNAL, allowed),
+        _ => history(alloc, source, sink, row.text(5), LEAST_JOURNAL, allowed),
+    }
+}
+
+/// What is said of a text, on polls and writes that fail.
+fn on_failing(
+    alloc: Global,
+    row: &Row,
+    failing_polls: &[u32],
+    failing_writes: &[u32],
+) -> Result<String, NoMemory> {
+    let source = MemorySource::new(alloc, row.bytes(4), failing_polls)?;
+    let sink = MemorySink::new(alloc, ROOM, failing_writes)?;
+    told(alloc, &run(alloc, row, source, sink))
 }
 
 /// What is said of a text.
 fn on_text(alloc: Global, row: &Row) -> Result<String, NoMemory> {
     let failing_polls = row.numbers(alloc, 2)?;
     let failing_writes = row.numbers(alloc, 3)?;
-    let source = MemorySource::new(alloc, row.bytes(4), failing_polls.as_slice())?;
-    let sink = MemorySink::new(alloc, ROOM, failing_writes.as_slice())?;
-    let allowed = u64::from(row.number32(1));
-    let audited = match row.text(0) {
-        "audit" => audit(alloc, source, sink, LEAST_JOURNAL, allowed),
-        _ => history(alloc, source, sink, row.text(5), LEAST_JOURNAL, allowed),
-    };
-    told(alloc, &audited)
+    on_failing(
+        alloc,
+        row,
+        failing_polls.as_slice(),
+        failing_writes.as_slice(),
+    )
 }
 
 /// What is said of a row: `audit|ALLOWED POLLS|FAILING POLLS|FAILING WRITES|TEXT`,

@@ -27,13 +27,21 @@ fn shown(alloc: Global, job: &Job) -> Result<String, NoMemory> {
     )?)
 }
 
+/// The job of the next start that may be made now, and whether there was one.
+fn say_start(alloc: Global, desk: &mut Desk, said: &mut String) -> Result<bool, NoMemory> {
+    let Some(job) = desk.start()? else {
+        return Ok(false);
+    };
+    said.push_str(shown(alloc, &job)?.as_str())?;
+    Ok(true)
+}
+
 /// The jobs of the starts that may be made now.
 fn started(alloc: Global, desk: &mut Desk) -> Result<String, NoMemory> {
     let mut said = String::new(alloc);
     for _ in 0..MOST_STARTS {
-        match desk.start()? {
-            Some(job) => said.push_str(shown(alloc, &job)?.as_str())?,
-            None => break,
+        if !say_start(alloc, desk, &mut said)? {
+            break;
         }
     }
     Ok(said)
@@ -84,14 +92,21 @@ fn ended(alloc: Global, desk: &mut Desk, row: &Row) -> Result<String, NoMemory>
     Ok(format!(in alloc; "{before} {ended:?} {after} {jobs}")?)
 }
 
-/// A run ends that no line ends, on a desk of its own in mode Live: `finish|RUN|CODE|OUTPUT|MOMENT|LINE|LINE|LINE`.
+/// A run ends that no line ends, on a new desk: `finish|RUN|CODE|OUTPUT|MOMENT|LINE|LINE|LINE`.
+fn finish_on(alloc: Global, desk: &mut Desk, row: &Row) -> Result<String, NoMemory>
+    requires { desk.old.mode ≡ Mode.Live }
+{
+    take(desk, row.bytes(5));
+    take(desk, row.bytes(6));
+    take(desk, row.bytes(7));
+    start_one(desk)?;
+    ended(alloc, desk, row)
+}
+
+/// The same on a desk of its own in mode Live.
 fn finished(alloc: Global, row: &Row) -> Result<String, NoMemory> {
     let mut desk = Desk::with_limit(alloc, LEAST_JOURNAL, Mode::Live)?;
-    take(&mut desk, row.bytes(5));
-    take(&mut desk, row.bytes(6));
-    take(&mut desk, row.bytes(7));
-    start_one(&mut desk)?;
-    ended(alloc, &mut desk, row)
+    finish_on(alloc, &mut desk, row)
 }
 
 /// Begins a desk of a mode.

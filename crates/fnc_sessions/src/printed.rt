@@ -79,15 +79,19 @@ fn journal(alloc: Global, row: &Row) -> Result<String, NoMemory> {
     }
 }
 
+/// What is printed of the pieces of a row from a place on, into a sink that may fail.
+fn on_pieces(alloc: Global, row: &Row, from: usize, torn: &[Torn]) -> Result<String, NoMemory> {
+    let pieces = pieces(alloc, row, from)?;
+    printed(alloc, pieces.as_slice(), torn)
+}
+
 /// What is said of a row: `pieces|PIECE|..`, `torn pieces|WRITE|KEPT|PIECE|..` where a write fails and keeps so many
 /// bytes, and `journal|ENTRY|..`.
 pub(crate) fn say(alloc: Global, row: &Row) -> Result<String, NoMemory> {
+    let (write, kept) = (row.number32(1), row.number32(2));
     match row.text(0) {
-        "pieces" => printed(alloc, &pieces(alloc, row, 1)?, &[]),
-        "torn pieces" => {
-            let (write, kept) = (row.number32(1), row.number32(2));
-            printed(alloc, &pieces(alloc, row, 3)?, &[Torn { write, kept }])
-        }
+        "pieces" => on_pieces(alloc, row, 1, &[]),
+        "torn pieces" => on_pieces(alloc, row, 3, &[Torn { write, kept }]),
         _ => journal(alloc, row),
     }
 }

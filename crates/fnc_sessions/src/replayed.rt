@@ -33,27 +33,67 @@ pub(crate) fn say(alloc: Global, row: &Row) -> Result<String, NoMemory> {
     }
 }
 
-/// How a session on a text ends, after how many polls, whether there is a journal, and what was written.
-fn on_text(alloc: Global, row: &Row) -> Result<String, NoMemory> {
-    let failing_polls = row.numbers(alloc, 2)?;
-    let failing_writes = row.numbers(alloc, 3)?;
-    let source = MemorySource::new(alloc, row.bytes(4), failing_polls.as_slice())?;
-    let sink = MemorySink::new(alloc, 1_024, failing_writes.as_slice())?;
-    let replayed = run(alloc, source, sink, row.number32(1));
+/// How a session ended, after how many polls, whether there is a journal, and what was written.
+fn told(alloc: Global, replayed: &Replayed<MemorySource, MemorySink>) -> Result<String, NoMemory> {
     let (outcome, polls) = (replayed.outcome, replayed.polls);
-    let output = shown(alloc, replayed.sink.bytes())?;
     let has_journal = replayed.journal.is_some();
+    let output = shown(alloc, replayed.sink.bytes())?;
     Ok(format!(in alloc; "{outcome:?} {polls} {has_journal} {output}")?)
 }
 
-/// How a session on pieces ends, after how many polls, what the sink holds, and what of it was sent on.
-fn on_pieces(alloc: Global, row: &Row) -> Result<String, NoMemory> {
-    let failing = row.numbers(alloc, 2)?;
-    let source = StreamSource::new(alloc, Pieces { row, at: 3 })?;
-    let sink = MemorySink::with_failing_flushes(alloc, 1_024, failing.as_slice())?;
-    let replayed = run(alloc, source, sink, row.number32(1));
+/// What is said of a session on this source, of which some writes fail.
+fn from_source(
+    alloc: Global,
+    row: &Row,
+    source: MemorySource,
+    failing_writes: &[u32],
+) -> Result<String, NoMemory> {
+    let sink = MemorySink::new(alloc, 1_024, failing_writes)?;
+    told(alloc, &run(alloc, source, sink, row.number32(1)))
+}
+
+/// What is said of a session on a text, of which some polls and some writes fail.
+fn on_failing(
+    alloc: Global,
+    row: &Row,
+    failing_polls: &[u32],
+    failing_writes: &[u32],
+) -> Result<String, NoMemory> {
+    let source = MemorySource::new(alloc, row.bytes(4), failing_polls)?;
+    from_source(alloc, row, source, failing_writes)
+}
+
+/// What is said of a session on a text.
+fn on_text(alloc: Global, row: &Row) -> Result<String, NoMemory> {
+    let failing_polls = row.numbers(alloc, 2)?;
+    let failing_writes = row.numbers(alloc, 3)?;
+    on_failing(
+        alloc,
+        row,
+        failing_polls.as_slice(),
+        failing_writes.as_slice(),
+    )
+}
+
+/// How a session ended, after how many polls, what the sink holds, and what of it was sent on.
+fn told_of_sent<S: Source + Drop>(
+    alloc: Global,
+    replayed: &Replayed<S, MemorySink>,
+) -> Result<String, NoMemory> {
     let (outcome, polls) = (replayed.outcome, replayed.polls);
     let held = shown(alloc, replayed.sink.bytes())?;
     let sent = shown(alloc, replayed.sink.sent())?;
     Ok(format!(in alloc; "{outcome:?} {polls} held {held} sent {sent}")?)
+}
+
+/// What is said of a session on this source, with a sink of which some flushes fail.
+fn from_pieces<S: Source + Drop>(alloc: Global, row: &Row, source: S) -> Result<String, NoMemory> {
+    let failing = row.numbers(alloc, 2)?;
+    let sink = MemorySink::with_failing_flushes(alloc, 1_024, failing.as_slice())?;
+    told_of_sent(alloc, &run(alloc, source, sink, row.number32(1)))
+}
+
+/// What is said of a session on pieces.
+fn on_pieces(alloc: Global, row: &Row) -> Result<String, NoMemory> {
+    from_pieces(alloc, row, StreamSource::new(alloc, Pieces { row, at: 3 })?)
 }
