@@ -22,16 +22,19 @@ use Rattle.std.proofs.Common.{
   None,
   length,
 }
-use Rattle.std.specs.Prelude.{find, is_some, option_map}
+use Rattle.std.specs.Prelude.{bytes_eq, find, is_some, option_map}
 use Rattle.std.specs.List.{list_any}
 use Rattle.fnc_journal.specs.declared.event.Event.{Event}
 use Rattle.fnc_journal.specs.declared.entry.Slot.{Slot}
 use Rattle.fnc_journal.specs.History.{History}
-use Rattle.fnc_journal.specs.Missing.{first_of}
-use Rattle.fnc_journal.specs.Found.{entry_at}
+use Rattle.fnc_journal.specs.Missing.{first_of, or_here}
+use Rattle.fnc_journal.specs.Found.{Asked, asked, asked_here, entry_at}
+use Rattle.fnc_journal.specs.Due.{confirms, is_confirmed}
+use Rattle.fnc_journal.specs.Slots.{Operation}
 use Rattle.fnc_journal.specs.Same.{same_slot}
 use Rattle.fnc_journal.specs.Acts.{Act, acts, runs, cons_act, slot_of_run}
 use Rattle.fnc_journal.specs.Lawful.{last_moment, pending}
+use Rattle.fnc_judge.specs.Opened.{replies_after, last_replies}
 use Rattle.fnc_judge.specs.Testing.{moment_by, pending_after, runs_here}
 
 -- the last entry
@@ -51,6 +54,10 @@ moment-same (e ∷ before) = refl
 pub pending-same : (h : History) → pending_after h (first_of h) ≡ pending h
 pending-same [] = refl
 pending-same (e ∷ before) = refl
+
+pub replies-same : (o : ℕ) (h : History) → replies_after o h (first_of h) ≡ last_replies o h
+replies-same o [] = refl
+replies-same o (e ∷ before) = refl
 
 -- one passes where one is found
 pub any-find : {X : Type 0} (p : X → Bool) (xs : List X) → is_some (find p xs) ≡ list_any p xs
@@ -90,3 +97,24 @@ runs-most o s (e ∷ before) = go (runs_here o s e.event) (runs-more o s e.momen
         runs s (acts o before) ≤ length before → runs s (acts o (e ∷ before)) ≤ length (e ∷ before)
     go true p k = omega (arith, p, k)
     go false p k = omega (arith, p, k)
+
+-- before its request an operation is not confirmed
+pub unasked-unconfirmed : (o : Operation) (h : History) → asked o.req h ≡ None → is_confirmed o h ≡ false
+unasked-unconfirmed o [] k = refl
+unasked-unconfirmed o (e ∷ before) k = go e.event (unasked-unconfirmed o before earlier)
+  where
+    fewer : (x y : Option Asked) → or_here x y ≡ None → x ≡ None
+    fewer None y f = refl
+    fewer (Some x) None f = f
+    fewer (Some x) (Some y) f = cc
+
+    earlier : asked o.req before ≡ None
+    earlier = fewer (asked o.req before) (asked_here o.req e.moment before e.event) k
+
+    none : (b : Bool) → is_confirmed o before ≡ false → (b && is_some (asked o.req before) || is_confirmed o before) ≡ false
+    none true ih = rw (earlier, ih) refl
+    none false ih = ih
+
+    go : (event : Event) → is_confirmed o before ≡ false → (confirms o before event || is_confirmed o before) ≡ false
+    go (Event.Confirm confirmation) ih = none (bytes_eq o.target confirmation.target) ih
+    go _ ih = ih

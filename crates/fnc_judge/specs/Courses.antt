@@ -1,5 +1,5 @@
 -- What the judge gathers of an operation: of its queries and of the levels that it tries.
-use Rattle.std.specs.Prelude.{ℕ, List, [], ◌∷◌, ◌&&◌, ◌+◌, if◌then◌else◌, nat_le, max, Option, Some, None, is_none}
+use Rattle.std.specs.Prelude.{ℕ, List, [], ◌∷◌, ◌&&◌, ◌+◌, Bool, if◌then◌else◌, nat_le, max, Option, Some, None, is_none}
 use Rattle.std.specs.Prelude.{option_and_then}
 use Rattle.std.specs.Option.{option_or}
 use Rattle.fnc_journal.specs.declared.entry.Answer.{Answer}
@@ -98,3 +98,22 @@ course_of p m acts = course_by p.asked.scope p m acts
 -- since when the operation stands where it stands
 abbrev pub since_by : ℕ → Course → ℕ
 since_by begin s = max s.queries.greatest (max s.survey.greatest begin)
+
+-- what tells where an operation stands, and which answer is due to it
+pub record Stand : Type 0 where
+  pub unconcluded : Option Task
+  pub any : Bool
+  pub kept : Option Kept
+
+-- what was gathered of it
+abbrev pub stand : Course → Stand
+stand s = record { unconcluded = s.queries.unconcluded; any = s.survey.any; kept = s.survey.kept }
+
+-- the slot at which it stands
+abbrev pub standing_of : Stand → Option Task
+standing_of s = option_or s.unconcluded (option_and_then (λ (k : Kept). k.standing) s.kept)
+
+-- the answer that is due by the acts alone
+abbrev pub due_of : ℕ → ℕ → Stand → Option Due
+due_of over m s =
+    due_by over m (record nothing { unconcluded = s.unconcluded }) (record none { any = s.any; kept = s.kept })

@@ -1,12 +1,13 @@
 -- The open operations, one after another, as the judge keeps them.
 use Rattle.std.specs.Prelude.{ℕ, List, [], ◌∷◌, Bool, true, false, nat_lt, ◌==◌, ◌&&◌, not, if◌then◌else◌, filter}
 use Rattle.std.specs.Prelude.{Option, Some, None, option_and_then, length}
+use Rattle.fnc_journal.specs.declared.entry.Entry.{Entry}
 use Rattle.fnc_journal.specs.declared.event.Event.{Event}
 use Rattle.fnc_journal.specs.History.{History}
-use Rattle.fnc_journal.specs.Missing.{append_some, first_of}
+use Rattle.fnc_journal.specs.Missing.{append_some, first_of, is_number}
 use Rattle.fnc_journal.specs.Found.{is_answered, has_exit}
 use Rattle.fnc_journal.specs.Registered.{lane}
-use Rattle.fnc_journal.specs.Operations.{requests, request_here, is_open, operation_here}
+use Rattle.fnc_journal.specs.Operations.{lead_of, requests, request_here, is_open, operation_here}
 use Rattle.fnc_journal.specs.Startable.{Begun, begun_here, Startable, startable}
 use Rattle.fnc_search.specs.Pursued.{Pursued, operation, pursued_of}
 
@@ -54,3 +55,18 @@ startable_any h m (Some p) = startable h m (operation p)
 abbrev pub is_sooner : ℕ → Option Startable → Bool
 is_sooner ready None = true
 is_sooner ready (Some s) = nat_lt ready s.ready
+
+-- whether an entry is a reply to a request of an operation
+abbrev pub replies_for : ℕ → Event → History → Bool
+replies_for o (Event.Reply reply) h = is_number (lead_of reply.req.0 h) o
+replies_for o _ h = false
+
+-- whether the last entry is
+abbrev pub last_replies : ℕ → History → Bool
+last_replies o [] = false
+last_replies o (e ∷ before) = replies_for o e.event (e ∷ before)
+
+-- the same of an entry that may be missing
+abbrev pub replies_after : ℕ → History → Option Entry → Bool
+replies_after o h None = false
+replies_after o h (Some e) = replies_for o e.event h

@@ -1,6 +1,7 @@
 // What is gathered of an operation: of its queries and of the levels that it tries.
 
 ghost use Rattle.std.specs.Prelude.{◌≡◌, ◌<◌, ◌^◌, ◌-◌, ◌&&◌, [], ◌∷◌, Some, None, is_some, option_map, max};
+ghost use Rattle.fnc_journal.specs.Lawful.{Lawful};
 ghost use Rattle.fnc_journal.specs.Acts as Acts;
 ghost use Rattle.fnc_journal.specs.Due as Dues;
 ghost use Rattle.fnc_journal.specs.Plan as Plan;
@@ -40,6 +41,7 @@ impl<'a> Model for Course<'a> {
 
 #[tactic(auto, using(fnc_search::proofs::Looks::answered_same))]
 fn is_answered(operation: &Operation<'_>, past: &Past<'_>, task: &Task<'_>) -> bool
+    requires { Lawful past.now }
     ensures { result
         ≡ Standing.capable_query (Pursued.operation operation.now) (Acts.acts operation.now.req past.now)
         (Some task.now) }
@@ -49,6 +51,7 @@ fn is_answered(operation: &Operation<'_>, past: &Past<'_>, task: &Task<'_>) -> b
 }
 
 fn is_capable(operation: &Operation<'_>, past: &Past<'_>, query: &Option<Task<'_>>) -> bool
+    requires { Lawful past.now }
     ensures { result
         ≡ Standing.capable_query (Pursued.operation operation.now) (Acts.acts operation.now.req past.now) query.now }
 {
@@ -76,6 +79,7 @@ fn with_device<'a>(
     index: u64,
     device: &Device<'a>,
 ) -> Survey<'a>
+    requires { Lawful past.now }
     ensures { result
         ≡ Surveys.surveyed (Pursued.operation operation.now) moment (Acts.acts operation.now.req past.now)
         survey.entry (Slots.rank operation.now.asked.kind index (Some device.now ∷ [])) }
@@ -111,6 +115,13 @@ impl<'a> Course<'a> {
         }
     }
 
+    /// Whether a query is not concluded.
+    fn waits(&self) -> bool
+        ensures { result ≡ is_some self.now.queries.unconcluded }
+    {
+        self.queries.unconcluded.is_some()
+    }
+
     /// With one more candidate.
     fn with(
         self,
@@ -120,7 +131,8 @@ impl<'a> Course<'a> {
         device: &Device<'a>,
         query: Option<Task<'a>>,
     ) -> Course<'a>
-        requires { self.index < 2 ^ 64 - 1 }
+        requires few { self.index < 2 ^ 64 - 1 }
+        requires lawful { Lawful past.now }
         ensures { result
             ≡ Courses.coursed (Pursued.operation operation.now) moment (Acts.acts operation.now.req past.now)
             self.entry (record { device = device.now; query = query.entry }) }
@@ -149,7 +161,8 @@ impl<'a> Course<'a> {
         place: usize,
         candidate: &Device<'a>,
     ) -> Course<'a>
-        requires { self.index < 2 ^ 64 - 1 }
+        requires few { self.index < 2 ^ 64 - 1 }
+        requires lawful { Lawful past.now }
         ensures { result
             ≡ Courses.coursed_any (Pursued.operation operation.now) moment (Acts.acts operation.now.req past.now)
             self.entry (Pursued.queried_at operation.now place candidate.now) }
@@ -167,6 +180,7 @@ impl<'a> Course<'a> {
 
 /// What is gathered of the candidates of an operation.
 fn candidates<'a>(operation: &Operation<'a>, moment: u64, past: &Past<'_>) -> Course<'a>
+    requires { Lawful past.now }
     ensures { result
         ≡ Courses.coursed_all (Pursued.operation operation.now) moment (Acts.acts operation.now.req past.now)
         Courses.start (candidates_of operation.now) }
@@ -175,6 +189,38 @@ fn candidates<'a>(operation: &Operation<'a>, moment: u64, past: &Past<'_>) -> Co
     let mut course = Course::start();
     let mut after = None;
     for place in 0..most {
+        match next_candidate(operation, after) {
+            Some(candidate) => {
+                after = Some(candidate.key());
+                course = course.with_candidate(
+                    operation,
+                    moment,
+                    past,
+                    place as usize,
+                    candidate.device(),
+                );
+            }
+            None => return course,
+        }
+    }
+    course
+}
+
+/// What is gathered of the candidates of an operation up to the first whose query is not concluded: nothing
+/// behind it tells where the operation stands.
+fn candidates_until<'a>(operation: &Operation<'a>, moment: u64, past: &Past<'_>) -> Course<'a>
+    requires { Lawful past.now }
+    ensures { Courses.stand (Courses.tried result)
+        ≡ Courses.stand (Courses.tried (Courses.coursed_all (Pursued.operation operation.now) moment
+        (Acts.acts operation.now.req past.now) Courses.start (candidates_of operation.now))) }
+{
+    let most = operation.before().len();
+    let mut course = Course::start();
+    let mut after = None;
+    for place in 0..most {
+        if course.waits() {
+            return course;
+        }
         match next_candidate(operation, after) {
             Some(candidate) => {
                 after = Some(candidate.key());
@@ -218,10 +264,27 @@ fn tried(course: Course<'_>) -> Course<'_>
 
 /// What is gathered of an operation.
 fn course_of<'a>(operation: &Operation<'a>, moment: u64, past: &Past<'_>) -> Course<'a>
+    requires { Lawful past.now }
     ensures { result ≡ Courses.course_of operation.now moment (Acts.acts operation.now.req past.now) }
 {
     match operation.scope() {
         Scope::Nothing => tried(candidates(operation, moment, past)),
+        _ => Course {
+            queries: Gathered::nothing(),
+            survey: survey_levels(operation, moment, past),
+            index: 1,
+        },
+    }
+}
+
+/// What of it tells where an operation stands.
+fn course_until<'a>(operation: &Operation<'a>, moment: u64, past: &Past<'_>) -> Course<'a>
+    requires { Lawful past.now }
+    ensures { Courses.stand result
+        ≡ Courses.stand (Courses.course_of operation.now moment (Acts.acts operation.now.req past.now)) }
+{
+    match operation.scope() {
+        Scope::Nothing => tried(candidates_until(operation, moment, past)),
         _ => Course {
             queries: Gathered::nothing(),
             survey: survey_levels(operation, moment, past),
@@ -248,10 +311,11 @@ pub(crate) fn standing<'a>(
     moment: u64,
     past: &Past<'_>,
 ) -> Option<Task<'a>>
+    requires { Lawful past.now }
     ensures { result
         ≡ Standing.standing (Pursued.operation operation.now) moment (Acts.acts operation.now.req past.now) }
 {
-    standing_by(course_of(operation, moment, past))
+    standing_by(course_until(operation, moment, past))
 }
 
 fn time_by(over: u128, moment: u64) -> Option<Due>
@@ -304,11 +368,12 @@ fn due_by(course: &Course<'_>, over: u128, moment: u64) -> Option<Due>
 
 /// The answer that is due to an operation by its acts alone.
 pub(crate) fn due_by_acts(operation: &Operation<'_>, moment: u64, past: &Past<'_>) -> Option<Due>
+    requires { Lawful past.now }
     ensures { option_map Courses.answer_of result
         ≡ Dues.due_by_acts (Pursued.operation operation.now) moment (Acts.acts operation.now.req past.now) }
 {
     due_by(
-        &course_of(operation, moment, past),
+        &course_until(operation, moment, past),
         operation.over(),
         moment,
     )
@@ -324,6 +389,7 @@ fn since_by(course: &Course<'_>, begin: u64) -> u128
 
 /// Since when an operation stands where it stands.
 fn since(operation: &Operation<'_>, moment: u64, past: &Past<'_>) -> u128
+    requires { Lawful past.now }
     ensures since { result
         ≡ Standing.since (Pursued.operation operation.now) moment (Acts.acts operation.now.req past.now) }
     ensures small { result < 2 ^ 65 }
@@ -338,6 +404,7 @@ pub(crate) fn ready(
     past: &Past<'_>,
     task: &Task<'_>,
 ) -> Option<u128>
+    requires { Lawful past.now }
     ensures { result
         ≡ Standing.ready (Pursued.operation operation.now) moment (Acts.acts operation.now.req past.now) task.now }
 {
@@ -352,6 +419,7 @@ fn ready_after(
     task: &Task<'_>,
     last: Last,
 ) -> Option<u128>
+    requires { Lawful past.now }
     ensures { (l : Acts.Last) → last ≡ last_of l → result ≡ Standing.ready_after (Pursued.operation operation.now)
         moment (Acts.acts operation.now.req past.now) task.now l }
 {

@@ -2,6 +2,7 @@
 
 ghost use Rattle.std.specs.Prelude.{◌≡◌, if◌then◌else◌, Some, None};
 ghost use Rattle.std.specs.Option.{option_or};
+ghost use Rattle.fnc_journal.specs.Lawful.{Lawful};
 ghost use Rattle.fnc_journal.specs.Acts.{acts};
 ghost use Rattle.fnc_search.specs.Pursued as Pursued;
 ghost use Rattle.fnc_judge.specs.Tours as Tours;
@@ -83,6 +84,7 @@ impl<'a> Gathered<'a> {
         past: &Past<'_>,
         task: &Task<'a>,
     ) -> Gathered<'a>
+        requires { Lawful past.now }
         ensures { result
             ≡ Tours.gathered (Pursued.operation operation.now) moment (acts operation.now.req past.now) self.entry
             task.now }
@@ -99,6 +101,7 @@ impl<'a> Gathered<'a> {
         past: &Past<'_>,
         task: Option<Task<'a>>,
     ) -> Gathered<'a>
+        requires { Lawful past.now }
         ensures { result
             ≡ Tours.gathered_any (Pursued.operation operation.now) moment (acts operation.now.req past.now) self.entry
             task.entry }

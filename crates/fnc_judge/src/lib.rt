@@ -9,6 +9,7 @@ mod numbers;
 mod ordered;
 mod requests;
 mod rules;
+mod setup;
 mod startable;
 mod survey;
 mod verdict;

@@ -92,6 +92,7 @@ fn is_start_of(past: &Past<'_>, start: &Start, first: Option<Startable<'_>>) -> 
 
 /// A start is of the first that may start.
 pub(crate) fn start(entry: &Entry, past: &Past<'_>) -> bool
+    requires { Lawful.Lawful past.now }
     ensures { result ≡ Lawful.start entry.now past.now }
 {
     match &entry.event {
@@ -117,6 +118,7 @@ impl Model for Pending {
 }
 
 fn pending_of(past: &Past<'_>, entry: &Entry) -> Option<Pending>
+    requires { Lawful.Lawful past.now }
     ensures { result ≡ Lawful.pending_of entry.now.moment entry.now.event past.now }
 {
     match &entry.event {
@@ -137,6 +139,7 @@ fn pending_of(past: &Past<'_>, entry: &Entry) -> Option<Pending>
 }
 
 fn pending_of_last(past: &Past<'_>, last: Option<&Entry>) -> Option<Pending>
+    requires { Lawful.Lawful past.now }
     ensures { result ≡ pending_after past.now (option_copied last.entry) }
 {
     match last {
@@ -147,6 +150,7 @@ fn pending_of_last(past: &Past<'_>, last: Option<&Entry>) -> Option<Pending>
 
 /// The reply that must be continued, if there is one.
 fn last_pending(past: &Past<'_>) -> Option<Pending>
+    requires { Lawful.Lawful past.now }
     ensures { result ≡ Lawful.pending past.now }
 {
     pending_of_last(past, last(past))
@@ -177,6 +181,7 @@ fn is_first_reply(event: &Event, past: &Past<'_>) -> bool
 
 /// No request is answered twice, and the replies of an operation follow each other.
 pub(crate) fn once(entry: &Entry, past: &Past<'_>) -> bool
+    requires { Lawful.Lawful past.now }
     ensures { result ≡ Lawful.once entry.now past.now }
 {
     is_first_reply(&entry.event, past) && continues(last_pending(past), entry, past)
@@ -205,6 +210,7 @@ fn is_answered_with(answer: Answer, due: Option<Due>) -> bool
 }
 
 fn is_due_answer(past: &Past<'_>, moment: u64, answer: Answer, operation: &Operation<'_>) -> bool
+    requires { Lawful.Lawful past.now }
     ensures { result
         ≡ unwrap_or (option_map (Same.same_answer answer)
         (Operations.due_to past.now moment (Pursued.operation operation.now))) false }
@@ -218,6 +224,7 @@ fn is_reply_of(
     reply: &Reply,
     operation: Option<Operation<'_>>,
 ) -> bool
+    requires { Lawful.Lawful past.now }
     ensures { result ≡ replied_as reply.now moment past.now (option_map Pursued.operation operation.entry) }
 {
     match operation {
@@ -230,6 +237,7 @@ fn is_reply_of(
 }
 
 fn is_reply_due(past: &Past<'_>, moment: u64, reply: &Reply) -> bool
+    requires { Lawful.Lawful past.now }
     ensures { result ≡ replied_as reply.now moment past.now (Operations.first_due past.now moment) }
 {
     is_reply_of(past, moment, reply, first_due(past, moment))
@@ -237,6 +245,7 @@ fn is_reply_due(past: &Past<'_>, moment: u64, reply: &Reply) -> bool
 
 /// A reply is the one that is due.
 pub(crate) fn reply(entry: &Entry, past: &Past<'_>) -> bool
+    requires { Lawful.Lawful past.now }
     ensures { result ≡ Lawful.reply entry.now past.now }
 {
     match &entry.event {
@@ -255,6 +264,7 @@ fn number_of(operation: Option<Operation<'_>>, req: u32) -> u32
 }
 
 fn lead_wanted(past: &Past<'_>, moment: u64, request: &Request) -> u32
+    requires { Lawful.Lawful past.now }
     ensures { result ≡ lead_for request.now moment past.now }
 {
     let operation = joined(past, moment, request.kind, request.target.as_str());
@@ -262,6 +272,7 @@ fn lead_wanted(past: &Past<'_>, moment: u64, request: &Request) -> u32
 }
 
 fn leads(entry: &Entry, past: &Past<'_>) -> bool
+    requires { Lawful.Lawful past.now }
     ensures { result ≡ Lawful.leads entry.now.event entry.now.moment past.now }
 {
     match &entry.event {
@@ -283,6 +294,7 @@ fn is_input(event: &Event) -> bool
 }
 
 fn settled_since(past: &Past<'_>) -> bool
+    requires { Lawful.Lawful past.now }
     ensures { result ≡ Lawful.settled_since past.now }
 {
     settled(past, last_moment(past))
@@ -290,6 +302,7 @@ fn settled_since(past: &Past<'_>) -> bool
 
 /// Whether nothing is due, at a moment and at the last.
 fn settled_twice(past: &Past<'_>, moment: u64) -> bool
+    requires { Lawful.Lawful past.now }
     ensures { result ≡ (Operations.settled past.now moment && Lawful.settled_since past.now) }
 {
     settled(past, moment) && (last_moment(past) == moment || settled_since(past))
@@ -297,6 +310,7 @@ fn settled_twice(past: &Past<'_>, moment: u64) -> bool
 
 /// Before an input nothing is due, at its moment and at the last, and an Ask has the right lead.
 pub(crate) fn prompt(entry: &Entry, past: &Past<'_>) -> bool
+    requires { Lawful.Lawful past.now }
     ensures { result ≡ Lawful.prompt entry.now past.now }
 {
     if is_input(&entry.event) {
@@ -308,6 +322,7 @@ pub(crate) fn prompt(entry: &Entry, past: &Past<'_>) -> bool
 
 /// The first rule that an entry breaks.
 pub(crate) fn broken(entry: &Entry, past: &Past<'_>) -> Option<Rule>
+    requires { Lawful.Lawful past.now }
     ensures { result ≡ Lawful.broken entry.now past.now }
 {
     if !order(entry, past) {

@@ -1,6 +1,7 @@
 // The runs that are alive, and the start that comes first.
 
 ghost use Rattle.std.specs.Prelude.{◌≡◌, ◌&&◌, ◌+◌, ◌<◌, ◌^◌, ◌-◌, if◌then◌else◌, nat_le, Some};
+ghost use Rattle.fnc_journal.specs.Lawful.{Lawful};
 ghost use Rattle.fnc_journal.specs.Registered.{lane};
 ghost use Rattle.fnc_journal.specs.Startable as Starts;
 ghost use Rattle.fnc_judge.specs.Opened.{counts, counts_here, is_sooner, startable_any};
@@ -66,20 +67,13 @@ fn alive(past: &Past<'_>, number: u32) -> u32
     count
 }
 
-fn has_room(count: u32, cap: Option<u32>) -> bool
-    ensures { result ≡ Starts.has_room count cap }
-{
-    match cap {
-        Some(cap) => count < cap,
-        None => true,
-    }
-}
-
 fn has_place(past: &Past<'_>, task: &Task<'_>) -> bool
     ensures { result ≡ Starts.has_room (Starts.alive (lane task.now.reg past.now) past.now) task.now.definition.cap }
 {
-    let number = lane_of(past, task.reg());
-    has_room(alive(past, number), task.cap())
+    match task.cap() {
+        Some(cap) => alive(past, lane_of(past, task.reg())) < cap,
+        None => true,
+    }
 }
 
 fn may_start(past: &Past<'_>, moment: u64, task: &Task<'_>, ready: u128) -> bool
@@ -132,6 +126,7 @@ fn soonest_at<'a>(
     operation: Operation<'a>,
     task: Task<'a>,
 ) -> Option<Startable<'a>>
+    requires { Lawful past.now }
     ensures { result
         ≡ Starts.soonest found.entry
         (Starts.startable_at past.now moment (Pursued.operation operation.entry) (Some task.entry)) }
@@ -149,6 +144,7 @@ fn soonest_of<'a>(
     moment: u64,
     operation: Operation<'a>,
 ) -> Option<Startable<'a>>
+    requires { Lawful past.now }
     ensures { result
         ≡ Starts.soonest found.entry (Starts.startable past.now moment (Pursued.operation operation.entry)) }
 {
@@ -164,6 +160,7 @@ fn soonest_with<'a>(
     moment: u64,
     operation: Option<Operation<'a>>,
 ) -> Option<Startable<'a>>
+    requires { Lawful past.now }
     ensures { result ≡ Starts.soonest found.entry (startable_any past.now moment operation.entry) }
 {
     match operation {
@@ -174,6 +171,7 @@ fn soonest_with<'a>(
 
 /// The first to start at a moment.
 pub(crate) fn first<'a>(past: &Past<'a>, moment: u64) -> Option<Startable<'a>>
+    requires { Lawful past.now }
     ensures { result ≡ Starts.first past.now moment }
 {
     let mut found = None;

@@ -2,6 +2,7 @@
 
 ghost use Rattle.std.specs.Prelude.{◌≡◌, ◌||◌, if◌then◌else◌, Some, None, is_none, option_map, option_and_then};
 ghost use Rattle.std.specs.Option.{option_or};
+ghost use Rattle.fnc_journal.specs.Lawful.{Lawful};
 ghost use Rattle.fnc_journal.specs.Acts.{acts};
 ghost use Rattle.fnc_journal.specs.Levels as Levels;
 ghost use Rattle.fnc_journal.specs.Slots as Slots;
@@ -90,6 +91,7 @@ fn firsts<'a>(
     level: u64,
     names: &[Text],
 ) -> Gathered<'a>
+    requires { Lawful past.now }
     ensures { result
         ≡ Tours.gathered_all (Pursued.operation operation.now) moment (acts operation.now.req past.now) Tours.nothing
         (firsts_over split operation.now.asked.kind operation.now.asked.before level 0 names.now) }
@@ -118,6 +120,7 @@ fn ons<'a>(
     level: u64,
     names: &[Text],
 ) -> Gathered<'a>
+    requires { Lawful past.now }
     ensures { result
         ≡ Tours.gathered_all (Pursued.operation operation.now) moment (acts operation.now.req past.now) Tours.nothing
         (ons_over operation.now.asked.kind operation.now.asked.before level 0 names.now) }
@@ -199,6 +202,7 @@ impl<'a> Survey<'a> {
         past: &Past<'_>,
         level: Level<'a>,
     ) -> Survey<'a>
+        requires { Lawful past.now }
         ensures { result
             ≡ Surveys.surveyed (Pursued.operation operation.now) moment (acts operation.now.req past.now) self.entry
             (Surveys.rank_over operation.now.asked.kind operation.now.asked.before level.entry) }
@@ -228,6 +232,7 @@ impl<'a> Survey<'a> {
         past: &Past<'_>,
         level: Option<Level<'a>>,
     ) -> Survey<'a>
+        requires { Lawful past.now }
         ensures { result
             ≡ Surveys.surveyed_any (Pursued.operation operation.now) moment (acts operation.now.req past.now)
             self.entry
@@ -294,6 +299,7 @@ fn survey_target<'a>(
     past: &Past<'_>,
     target: &Target<'_>,
 ) -> Survey<'a>
+    requires { Lawful past.now }
     ensures { result
         ≡ Surveys.surveyed_all (Pursued.operation operation.now) moment (acts operation.now.req past.now) Surveys.none (
         Surveys.ranks_for operation.now.asked.kind operation.now.asked.before
@@ -314,6 +320,7 @@ pub(crate) fn survey_levels<'a>(
     moment: u64,
     past: &Past<'_>,
 ) -> Survey<'a>
+    requires { Lawful past.now }
     ensures { result
         ≡ Surveys.surveyed_all (Pursued.operation operation.now) moment (acts operation.now.req past.now) Surveys.none
         (Pursued.operation operation.now).levels }

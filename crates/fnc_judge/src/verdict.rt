@@ -6,6 +6,7 @@ ghost use Rattle.fnc_journal.specs.Prefix.{prefix};
 ghost use Rattle.fnc_judge.specs.Verdicts.{IsLawful, fault_of};
 
 use crate::rules::broken;
+use crate::setup::{setup_after, setup_to};
 use fnc_journal::{Journal, Rule};
 use fnc_search::Past;
 
@@ -34,10 +35,13 @@ pub fn judge_from(journal: &Journal, from: u32) -> Verdict
     ensures lawful { IsLawful result ↔ Lawful journal.now.history }
     ensures fault { fault_of result ≡ fault journal.now.history }
 {
+    let mut setup = setup_to(&Past::of(journal, from));
     for index in from..journal.len() {
-        if let Some(rule) = broken(journal.entry(index), &Past::of(journal, index)) {
+        let entry = journal.entry(index);
+        if let Some(rule) = broken(entry, &Past::set_up(journal, index, setup)) {
             return Verdict::Unlawful { index, rule };
         }
+        setup = setup_after(setup, &entry.event, index);
     }
     Verdict::Lawful
 }

@@ -5,6 +5,8 @@ pub mod Pointed
 pub mod Rising
 pub mod OldestLevels
 pub mod Looks
+pub mod Numbered
+pub mod Setups
 pub mod Ordered
 pub mod Queue
 pub mod Writing

@@ -6,3 +6,4 @@ pub mod Scoped
 pub mod Within
 pub mod Seen
 pub mod Written
+pub mod Setup

@@ -1,10 +1,9 @@
 -- What the runs of an operation say of a slot, gathered in one record.
-use Rattle.std.specs.Prelude.{ℕ, List, [], ◌∷◌, Bool, false, length, ◌==◌, ◌+◌, ◌||◌, ◌&&◌, not, if◌then◌else◌, min}
+use Rattle.std.specs.Prelude.{ℕ, List, Bool, ◌==◌, ◌+◌, ◌||◌, ◌&&◌, not, if◌then◌else◌, min}
 use Rattle.std.specs.Prelude.{Option, Some, None, is_some, option_map, unwrap_or}
-use Rattle.fnc_journal.specs.declared.event.Event.{Event}
+use Rattle.fnc_journal.specs.declared.event.Start.{Start}
 use Rattle.fnc_journal.specs.declared.entry.Exit.{Exit}
 use Rattle.fnc_journal.specs.declared.entry.Slot.{Slot}
-use Rattle.fnc_journal.specs.History.{History}
 use Rattle.fnc_journal.specs.Missing.{or_here, least_of, has_come}
 use Rattle.fnc_journal.specs.Same.{same_slot}
 use Rattle.fnc_journal.specs.Exits.{is_success}
@@ -15,21 +14,10 @@ use Rattle.fnc_journal.specs.Acts as Acts
 use Rattle.fnc_search.specs.declared.seen.Last.{Last}
 use Rattle.fnc_search.specs.declared.seen.Seen.{Seen}
 
--- the slot of a run that an entry starts for an operation
-abbrev pub begun_slot : ℕ → ℕ → Event → Option Slot
-begun_slot o n (Event.Start start) = if (o == start.req.0) && (n == start.run.0) then Some start.slot else None
-begun_slot o n _ = None
-
--- whether an entry starts a run of an operation
-abbrev pub starts_for : ℕ → Event → Bool
-starts_for o (Event.Start start) = o == start.req.0
-starts_for o _ = false
-
--- the number of the first entry that does
-abbrev pub first_start_of : ℕ → History → Option ℕ
-first_start_of o [] = None
-first_start_of o (e ∷ before) =
-    or_here (first_start_of o before) (if starts_for o e.event then Some (length before) else None)
+-- the slot of a start, where it is of an operation
+abbrev pub slot_for : ℕ → Option Start → Option Slot
+slot_for o None = None
+slot_for o (Some start) = if o == start.req.0 then Some start.slot else None
 
 -- the last run of a slot, as the judge keeps it
 abbrev pub last_of : Acts.Last → Last

@@ -138,7 +138,7 @@ pub fn level_of<'a>(past: &Past<'a>, target: &Target<'_>, index: u32) -> Option<
     ensures { result ≡ find (λ l. index == l.index) (Levels.levels target.now past.now) }
 {
     let mut found = None;
-    for i in 0..past.len() {
+    for i in 0..past.setup() {
         found = level_after(found, i, &past.entry(i).event, target, index);
     }
     found
@@ -164,7 +164,7 @@ pub fn top_of(past: &Past<'_>, target: &Target<'_>) -> u32
     ensures { result ≡ top target.now past.now }
 {
     let mut most = 0;
-    for i in 0..past.len() {
+    for i in 0..past.setup() {
         most = top_here_of(&past.entry(i).event, target).max(most);
     }
     most

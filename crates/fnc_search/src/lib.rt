@@ -3,6 +3,7 @@
 // request. Each search equals its definition, for journals from anywhere, and takes no memory.
 #![tactic(auto)]
 
+mod begun;
 mod candidates;
 mod found;
 mod kept;
@@ -14,6 +15,7 @@ mod registered;
 mod seen;
 mod task;
 
+pub use begun::begun_from;
 pub use candidates::{After, Candidate, next_candidate, query_of};
 pub use found::{Asked, has_exit, is_answered, lead, registration, request, start_of};
 pub use level::{Level, Target, level_of, oldest, pattern_at, scoped_target, stands, top_of};

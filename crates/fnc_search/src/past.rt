@@ -4,28 +4,33 @@ ghost use Rattle.std.specs.Prelude.{◌≡◌, ◌≤◌, ◌<◌, ◌^◌, IfSo
 ghost use Rattle.fnc_journal.specs.Found.{entry_at};
 ghost use Rattle.fnc_journal.specs.Links as Links;
 ghost use Rattle.fnc_journal.specs.Prefix.{prefix};
+ghost use Rattle.fnc_search.specs.Setup.{setup_end};
 ghost use Rattle.fnc_search.specs.Within.{within};
 
 use fnc_journal::{Entry, Journal, Reg, Req, Run};
 use std::marker::Model;
 
 /// The first entries of a journal, as many as `len` says. Contracts see the list of them, the newest first.
+/// From `setup` on no entry speaks of devices or levels.
 #[derive(Drop)]
 pub struct Past<'a> {
     journal: &'a Journal,
     len: u32,
+    setup: u32,
 }
 
 impl<'a> Model for Past<'a> {
     ghost use Rattle.std.specs.Prelude.{◌≤◌, length};
     ghost use Rattle.fnc_journal.specs.History.{History};
     ghost use Rattle.fnc_journal.specs.Prefix.{prefix};
+    ghost use Rattle.fnc_search.specs.Setup.{setup_end};
 
     ghost Value = { History };
 
     ghost view = { λ p. prefix p.len p.journal.now.history };
 
-    ghost invariant = { λ p. p.len ≤ length p.journal.now.history };
+    ghost invariant = { λ p. (p.len ≤ length p.journal.now.history) × (p.setup ≤ p.len)
+        × (setup_end (prefix p.len p.journal.now.history) ≤ p.setup) };
 }
 
 impl<'a> Past<'a> {
@@ -34,7 +39,25 @@ impl<'a> Past<'a> {
         requires { len ≤ length journal.now.history }
         ensures { result ≡ prefix len journal.now.history }
     {
-        Past { journal, len }
+        Past {
+            journal,
+            len,
+            setup: len,
+        }
+    }
+
+    /// The first entries of a journal, of which those from an index on do not speak of devices or levels.
+    pub fn set_up(journal: &'a Journal, len: u32, setup: u32) -> Past<'a>
+        requires within { len ≤ length journal.now.history }
+        requires fewer { setup ≤ len }
+        requires end { setup_end (prefix len journal.now.history) ≤ setup }
+        ensures { result ≡ prefix len journal.now.history }
+    {
+        Past {
+            journal,
+            len,
+            setup,
+        }
     }
 
     /// All entries of a journal.
@@ -49,6 +72,14 @@ impl<'a> Past<'a> {
         ensures { result ≡ length self.now }
     {
         self.len
+    }
+
+    /// How many entries there are up to the last that speaks of devices or levels, or more.
+    pub fn setup(&self) -> u32
+        ensures within { result ≤ length self.now }
+        ensures end { setup_end self.now ≤ result }
+    {
+        self.setup
     }
 
     /// The entry of an index.
@@ -67,6 +98,7 @@ impl<'a> Past<'a> {
         Past {
             journal: self.journal,
             len: index,
+            setup: self.setup.min(index),
         }
     }
 
@@ -77,6 +109,7 @@ impl<'a> Past<'a> {
         Past {
             journal: self.journal,
             len: self.len,
+            setup: self.setup,
         }
     }
 

@@ -35,7 +35,7 @@ pub fn current(past: &Past<'_>, name: &str) -> Option<u32>
     ensures { result ≡ Registered.current name.now past.now }
 {
     let mut found = None;
-    for i in 0..past.len() {
+    for i in 0..past.setup() {
         found = current_after(found, &past.entry(i).event, name);
     }
     found
@@ -82,7 +82,7 @@ pub fn least_registration(past: &Past<'_>, name: &str) -> Option<u32>
     ensures { result ≡ Registered.least_registration name.now past.now }
 {
     let mut least = None;
-    for i in 0..past.len() {
+    for i in 0..past.setup() {
         least = least_of(named_here(&past.entry(i).event, name), least);
     }
     least

@@ -5,10 +5,13 @@ ghost use Rattle.fnc_journal.specs.Acts as Acts;
 ghost use Rattle.fnc_journal.specs.Slots as Slots;
 ghost use Rattle.fnc_journal.specs.Prefix.{prefix};
 ghost use Rattle.fnc_journal.specs.Missing as Missing;
-ghost use Rattle.fnc_search.specs.Seen.{answered_by, begun_slot, concluded_at_by, concluded_by, confirmed_by, end_by};
+ghost use Rattle.fnc_journal.specs.Lawful.{Lawful};
+ghost use Rattle.fnc_search.specs.Seen.{answered_by, concluded_at_by, concluded_by, confirmed_by, end_by};
 ghost use Rattle.fnc_search.specs.Seen.{is_in_time_by, seen_begun, seen_ended, seen_exit, seen_failure, seen_in_time};
-ghost use Rattle.fnc_search.specs.Seen.{seen_of, seen_success, seen_with, spent_by, first_start_of, starts_for};
+ghost use Rattle.fnc_search.specs.Seen.{seen_of, seen_success, seen_with, slot_for, spent_by};
 
+use crate::begun::begun_from;
+use crate::found::start_of;
 use crate::past::Past;
 use crate::task::Task;
 use fnc_journal::{Ended, Entry, Event, Slot, Start};
@@ -33,26 +36,23 @@ pub struct Seen {
     pub last: Last,
 }
 
-fn slot_after(earlier: Option<Slot>, event: &Event, req: u32, run: u32) -> Option<Slot>
-    ensures { result ≡ Missing.or_here earlier (begun_slot req run event.now) }
+fn slot_for(start: Option<Start>, req: u32) -> Option<Slot>
+    ensures { result ≡ slot_for req start }
 {
-    match (earlier, event) {
-        (None, Event::Start(start)) if req == start.req.0 && run == start.run.0 => {
-            Some(start.slot)
-        }
-        _ => earlier,
+    let start = start?;
+    if req == start.req.0 {
+        Some(start.slot)
+    } else {
+        None
     }
 }
 
 /// The slot that a run was started for, where it is a run of the operation.
 fn slot_of_run(past: &Past<'_>, req: u32, run: u32) -> Option<Slot>
+    requires { Lawful past.now }
     ensures { result ≡ Acts.slot_of_run run (Acts.acts req past.now) }
 {
-    let mut found = None;
-    for i in 0..past.len() {
-        found = slot_after(found, &past.entry(i).event, req, run);
-    }
-    found
+    slot_for(start_of(past, run), req)
 }
 
 fn is_in_time(task: &Task<'_>, over: u128, begun: Option<u64>, moment: u64) -> bool
@@ -177,7 +177,8 @@ impl Seen {
 
     /// With one more entry.
     fn after(self, task: &Task<'_>, over: u128, before: &Past<'_>, req: u32, entry: &Entry) -> Seen
-        requires { self.failed < 2 ^ 32 - 1 }
+        requires few { self.failed < 2 ^ 32 - 1 }
+        requires lawful { Lawful before.now }
         ensures { result
             ≡ seen_with task.now over self
             (Acts.act_here req entry.now.moment (Acts.acts req before.now) entry.now.event) }
@@ -279,30 +280,10 @@ fn has_come(end: Option<u128>, moment: u64) -> bool
     }
 }
 
-fn is_start_for(event: &Event, req: u32) -> bool
-    ensures { result ≡ starts_for req event.now }
-{
-    match event {
-        Event::Start(start) => req == start.req.0,
-        _ => false,
-    }
-}
-
-/// The number of the first entry that starts a run of an operation.
-fn first_start(past: &Past<'_>, req: u32) -> Option<u32>
-    ensures { result ≡ first_start_of req past.now }
-{
-    for i in 0..past.len() {
-        if is_start_for(&past.entry(i).event, req) {
-            return Some(i);
-        }
-    }
-    None
-}
-
 /// What the runs of an operation say of a slot, where no run was started before the entry of a number.
 fn looked_from(past: &Past<'_>, req: u32, task: &Task<'_>, over: u128, from: u32) -> Seen
-    requires { Acts.acts req (prefix from past.now) ≡ [] }
+    requires lawful { Lawful past.now }
+    requires idle { Acts.acts req (prefix from past.now) ≡ [] }
     ensures { result ≡ seen_of task.now over (Acts.acts req past.now) }
 {
     let mut found = Seen::nothing();
@@ -312,12 +293,10 @@ fn looked_from(past: &Past<'_>, req: u32, task: &Task<'_>, over: u128, from: u32
     found
 }
 
-/// What the runs of an operation say of a slot.
+/// What the runs of an operation say of a slot, after entries that are lawful.
 pub fn looked_at(past: &Past<'_>, req: u32, task: &Task<'_>, over: u128) -> Seen
+    requires { Lawful past.now }
     ensures { result ≡ seen_of task.now over (Acts.acts req past.now) }
 {
-    match first_start(past, req) {
-        Some(from) => looked_from(past, req, task, over, from),
-        None => Seen::nothing(),
-    }
+    looked_from(past, req, task, over, begun_from(past, req))
 }

@@ -23,8 +23,8 @@ loop-place-init c =
       few = omega (arith, first);
     }
 
-pub with_candidate-course-requires : goal.with_candidate-course-requires
-with_candidate-course-requires c =
+pub with_candidate-course-requires-clause-few : goal.with_candidate-course-requires-clause-few
+with_candidate-course-requires-clause-few c =
     let long = c.len-most.ensures ∙ ap length c.before-2.ensures in
     omega (arith, c.loop-place.invariant.few, c.loop-place-test.true, c.len-most.type_inv)
 

@@ -1,14 +1,18 @@
-use Rattle.std.proofs.Common.{sym, ap, ◌≡◌, ◌∙◌, arith, None, Some}
+use Rattle.std.proofs.Common.{sym, ap, ◌≡◌, ◌∙◌, arith, None, Some, not}
+use Rattle.std.specs.Prelude.{filter}
+use Rattle.fnc_journal.specs.Missing.{first_of}
+use Rattle.fnc_journal.specs.Found.{is_answered}
 use Rattle.fnc_journal.specs.History.{History}
 use Rattle.fnc_journal.specs.Prefix.{prefix}
-use Rattle.fnc_journal.proofs.Prefixes.{prefix-all, prefix-none}
+use Rattle.fnc_journal.proofs.Prefixes.{prefix-all}
 use Rattle.fnc_judge.specs.Opened.{waiting, waiting_here}
 use Rattle.fnc_search.proofs.Searches.{goes-on, stops}
 use Rattle.fnc_judge.proofs.Waiting.{waiting-first, waiting-kept}
 use Rattle.fnc_judge.proofs.requests.first_waiting.Goals as goal
 
 pub loop-i-init : goal.loop-i-init
-loop-i-init c = ap (waiting c.args.past.now c.args.req) (prefix-none c.args.past.now)
+loop-i-init c =
+    ap (λ rs. first_of (filter (λ r. not (is_answered r c.args.past.now)) rs)) c.begun_from-i.ensures.requests
 
 pub returns-in-Some : goal.returns-in-Some
 returns-in-Some c =

@@ -1,14 +1,18 @@
-use Rattle.std.proofs.Common.{sym, ap, ◌∙◌, arith, ◌||◌}
+use Rattle.std.proofs.Common.{sym, ap, ◌∙◌, arith, ◌||◌, ℕ}
+use Rattle.fnc_journal.specs.Found.{asked}
+use Rattle.fnc_judge.proofs.Testings.{unasked-unconfirmed}
 use Rattle.fnc_journal.specs.History.{History}
 use Rattle.fnc_journal.specs.Prefix.{prefix}
-use Rattle.fnc_journal.proofs.Prefixes.{prefix-all, prefix-more, prefix-none}
+use Rattle.fnc_journal.proofs.Prefixes.{prefix-all, prefix-more}
 use Rattle.fnc_journal.specs.Due.{is_confirmed, confirms}
 use Rattle.fnc_search.specs.Pursued.{operation}
 use Rattle.fnc_judge.proofs.requests.is_confirmed.Goals as goal
 
 pub loop-i-init : goal.loop-i-init
 loop-i-init c =
-    ap (λ (k : History). is_confirmed (operation c.args.operation.now) k) (sym (prefix-none c.args.past.now))
+    sym (unasked-unconfirmed (operation c.args.operation.now) (prefix c.begun_from-i.result c.args.past.now)
+    (ap (λ (n : ℕ). asked n (prefix c.begun_from-i.result c.args.past.now)) (sym c.req.ensures)
+    ∙ c.begun_from-i.ensures.asked))
 
 pub loop-i-preserved : goal.loop-i-preserved
 loop-i-preserved c =

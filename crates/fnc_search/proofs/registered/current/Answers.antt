@@ -1,7 +1,8 @@
 use Rattle.std.proofs.Common.{sym, ap, ◌∙◌, arith}
 use Rattle.fnc_journal.specs.History.{History}
-use Rattle.fnc_journal.proofs.Prefixes.{prefix-all, prefix-more, prefix-none}
+use Rattle.fnc_journal.proofs.Prefixes.{prefix-more, prefix-none}
 use Rattle.fnc_journal.specs.Registered.{current, current_after}
+use Rattle.fnc_search.proofs.Setups.{set-up, current-set_up}
 use Rattle.fnc_search.proofs.registered.current.Goals as goal
 
 pub loop-i-init : goal.loop-i-init
@@ -13,9 +14,10 @@ loop-i-preserved c =
     let e = c.entry.result.now in
     c.current_after-found.ensures ∙ ap (λ a. current_after c.args.name.now e.event a) c.loop-i.invariant
     ∙ ap (λ (k : History). current c.args.name.now k)
-    (sym (prefix-more h c.loop-i.i e (omega (arith, c.loop-i-test.true, c.len-i-end.ensures)) c.entry.ensures))
+    (sym (prefix-more h c.loop-i.i e (omega (arith, c.loop-i-test.true, c.setup-i-end.ensures.within)) c.entry.ensures))
 
 pub returns : goal.returns
 returns c =
-    c.loop-i.invariant ∙ ap (λ (k : History). current c.args.name.now k)
-    (prefix-all c.args.past.now c.loop-i.i (omega (arith, c.loop-i-test.false, c.len-i-end.ensures)))
+    c.loop-i.invariant
+    ∙ set-up (λ (k : History). current c.args.name.now k) (current-set_up c.args.name.now) c.args.past.now c.loop-i.i
+    (omega (arith, c.loop-i-test.false, c.setup-i-end.ensures.end))

@@ -1,8 +1,9 @@
 use Rattle.std.proofs.Common.{sym, ap, ◌∙◌, arith}
 use Rattle.fnc_journal.specs.History.{History}
-use Rattle.fnc_journal.proofs.Prefixes.{prefix-all, prefix-more, prefix-none}
+use Rattle.fnc_journal.proofs.Prefixes.{prefix-more, prefix-none}
 use Rattle.fnc_journal.specs.Missing.{least_of}
 use Rattle.fnc_journal.specs.Registered.{least_registration, named_here}
+use Rattle.fnc_search.proofs.Setups.{set-up, least-set_up}
 use Rattle.fnc_search.proofs.registered.least_registration.Goals as goal
 
 pub loop-i-init : goal.loop-i-init
@@ -15,9 +16,10 @@ loop-i-preserved c =
     c.least_of-least.ensures ∙ ap (λ x. least_of x c.loop-i.least) c.named_here.ensures
     ∙ ap (λ a. least_of (named_here c.args.name.now e.event) a) c.loop-i.invariant
     ∙ ap (λ (k : History). least_registration c.args.name.now k)
-    (sym (prefix-more h c.loop-i.i e (omega (arith, c.loop-i-test.true, c.len-i-end.ensures)) c.entry.ensures))
+    (sym (prefix-more h c.loop-i.i e (omega (arith, c.loop-i-test.true, c.setup-i-end.ensures.within)) c.entry.ensures))
 
 pub returns : goal.returns
 returns c =
-    c.loop-i.invariant ∙ ap (λ (k : History). least_registration c.args.name.now k)
-    (prefix-all c.args.past.now c.loop-i.i (omega (arith, c.loop-i-test.false, c.len-i-end.ensures)))
+    c.loop-i.invariant
+    ∙ set-up (λ (k : History). least_registration c.args.name.now k) (least-set_up c.args.name.now) c.args.past.now c.loop-i.i
+    (omega (arith, c.loop-i-test.false, c.setup-i-end.ensures.end))

@@ -5,4 +5,4 @@ use Rattle.fnc_search.proofs.past.Past.device_at.Goals as goal
 pub returns-clause-at : goal.returns-clause-at
 returns-clause-at c =
     points (is_device_of c.args.reg) c.self.inside.journal.now.history c.args.self.now c.self.inside.len c.device_at.result
-    c.within.result c.self.invariant c.self.view_is c.device_at.ensures c.within.ensures
+    c.within.result c.self.invariant.0 c.self.view_is c.device_at.ensures c.within.ensures

@@ -7,8 +7,8 @@ use Rattle.fnc_search.proofs.past.Past.entry.Goals as goal
 
 pub entry-requires : goal.entry-requires
 entry-requires c =
-    let most = c.self.invariant in
-    let long = prefix-length c.self.inside.journal.now.history c.self.inside.len c.self.invariant in
+    let most = c.self.invariant.0 in
+    let long = prefix-length c.self.inside.journal.now.history c.self.inside.len c.self.invariant.0 in
     let view = ap length c.self.view_is in
     omega (arith, most, long, view, c.requires)
 

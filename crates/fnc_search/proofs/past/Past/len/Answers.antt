@@ -4,4 +4,4 @@ use Rattle.fnc_search.proofs.past.Past.len.Goals as goal
 
 pub returns : goal.returns
 returns c =
-    sym (prefix-length c.self.inside.journal.now.history c.self.inside.len c.self.invariant) ∙ ap length c.self.view_is
+    sym (prefix-length c.self.inside.journal.now.history c.self.inside.len c.self.invariant.0) ∙ ap length c.self.view_is
