@@ -8,8 +8,10 @@ use Rattle.fnc_journal.specs.History.{History, Journaled}
 use Rattle.fnc_outside.specs.Told.{Gains}
 use Rattle.fnc_told.specs.SourceAndSink.{Change, SinkTold, SourceTold}
 use Rattle.fnc_words.specs.declared.command.Command.{Command}
+use Rattle.fnc_words.specs.declared.course.Course.{Course}
 use Rattle.fnc_words.specs.declared.command.WordsFault.{WordsFault}
 use Rattle.fnc_words.specs.declared.session.Session.{Session}
+use Rattle.fnc_workload.specs.Worked.{EndsAt, Leaves, Writes}
 use Rattle.fnc_replay.specs.Heard.{Heard}
 use Rattle.fnc_replay.specs.Room.{KeepsRoom}
 use Rattle.fnc_replay.specs.Session.{HasCause, IsComplete, IsServed, PollCounts, Wrote, cored}
@@ -33,6 +35,27 @@ pub record RunsSession (asked : Option Command) (outcome : Outcome) (source : Ch
   pub cause : HasCause outcome source sink polls j
   pub complete : IsComplete outcome source sink polls j
   pub heard : Heard outcome source polls.made (cored j)
+
+-- A workload ran, and this is what its outcome and its journal are worth: the journal is lawful, calm, driven and
+-- settled; its inputs are those of the lines that were made, all of them, or all but the last one where the journal was
+-- full; the line with the counts of the journal was written; and where all lines were made nothing is left to be done,
+-- and no request without its answer. Nothing was read.
+pub record RunsWorkload (course : Course) (outcome : Outcome) (source : Change SourceTold) (sink : Change SinkTold)
+    (polls : PollCounts) (j : Journaled) : Type 0 where
+  pub served : IsServed j.history
+  pub limit : j.limit ≡ 1048576
+  pub lines : EndsAt outcome (record { number = course.number; count = course.count }) (cored j)
+  pub over : Leaves outcome j.history
+  pub summary : Writes outcome (record { number = course.number; count = course.count }) sink j.history
+  pub unread : Gains source.before.given source.after.given []
+  pub unpolled : polls.made ≡ 0
+
+-- what a command comes to that hands back a journal: that of a workload, or of a session of lines
+abbrev pub RunsWith : Option Command → Outcome → Change SourceTold → Change SinkTold → PollCounts → Journaled →
+    Type 0
+RunsWith (Some (Command.Workload course)) outcome source sink polls j =
+    RunsWorkload course outcome source sink polls j
+RunsWith asked outcome source sink polls j = RunsSession asked outcome source sink polls j
 
 -- a journal's text was read, and this is said of the journal
 pub record Reads (says : History → Said) (outcome : Outcome) (call : Call) : Type 0 where

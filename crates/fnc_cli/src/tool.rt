@@ -3,20 +3,21 @@
 ghost use Rattle.std.specs.Prelude.{◌≡◌, ◌≤◌, ◌⊎◌, None, Some, IfSome, IfNone, map, string_bytes};
 ghost use Rattle.fnc_told.specs.SourceAndSink.{change, source_told, sink_told};
 ghost use Rattle.fnc_words.specs.Commands.{HasLimits, command_of};
-ghost use Rattle.fnc_cli.specs.Tool.{RunsSession, RunsWithout, outcome_of};
+ghost use Rattle.fnc_cli.specs.Tool.{RunsWith, RunsWithout, outcome_of};
 
 use fnc_audit::{Audited, audit, history};
 use fnc_journal::{Journal, Outcome};
 use fnc_outside::{Sink, Source};
 use fnc_replay::{Replayed, replay};
 use fnc_words::{Command, WordsFault, read_words};
+use fnc_workload::{Worked, workload};
 use std::alloc::Global;
 
 /// The most polls that a command makes.
 const POLLS: u64 = 4_294_967_295;
 
 /// What a command came to: its outcome, the journal of its session and the polls that this made, and the source and the
-/// sink. There is a journal exactly where a session ran: `replay` whose opening found its memory.
+/// sink. There is a journal exactly where a session ran: `replay` or `workload` whose opening found its memory.
 #[derive(Drop)]
 pub struct Tooled<S: Drop, K: Drop> {
     pub outcome: Outcome,
@@ -70,6 +71,23 @@ fn of_text<S: Source + Drop, K: Sink + Drop>(audited: Audited<S, K>) -> Tooled<S
     }
 }
 
+/// What a workload came to, which reads nothing of the source.
+fn of_workload<S: Source + Drop, K: Sink + Drop>(worked: Worked<K>, source: S) -> Tooled<S, K>
+    ensures outcome { result.outcome ≡ worked.outcome }
+    ensures journal { result.journal ≡ worked.journal }
+    ensures polls { result.polls ≡ 0 }
+    ensures source { result.source ≡ source }
+    ensures sink { result.sink ≡ worked.sink }
+{
+    Tooled {
+        outcome: worked.outcome,
+        journal: worked.journal,
+        polls: 0,
+        source,
+        sink: worked.sink,
+    }
+}
+
 /// Runs a command.
 fn run<S: Source + Drop, K: Sink + Drop>(
     alloc: Global,
@@ -80,7 +98,7 @@ fn run<S: Source + Drop, K: Sink + Drop>(
     requires { HasLimits command }
     ensures session { let of_source = source_told S.given S.left S.faults in
         let of_sink = sink_told K.held K.unsent K.faults in
-        IfSome result.journal (RunsSession (Some command) result.outcome
+        IfSome result.journal (RunsWith (Some command) result.outcome
         (change (of_source source) (of_source result.source)) (change (of_sink sink) (of_sink result.sink))
         (record { made = result.polls; allowed = 4_294_967_295 })) }
     ensures without { let of_source = source_told S.given S.left S.faults in
@@ -104,12 +122,16 @@ fn run<S: Source + Drop, K: Sink + Drop>(
             asked.entries,
             POLLS,
         )),
+        Command::Workload(course) => {
+            of_workload(workload(alloc, course.number, course.count, sink), source)
+        }
     }
 }
 
 /// Runs the command that the words name, without the program's own name. `replay [--entries N] [--journal]` replays
-/// the lines of the source, with a journal of so many entries, and writes the answers or the journal to the sink:
-/// `RunsSession` says what the journal that is handed back is worth. `audit [--entries N]` and
+/// the lines of the source, with a journal of so many entries, and writes the answers or the journal to the sink;
+/// `workload NUMBER COUNT` runs a session that it makes itself, and writes one line with the counts of its journal:
+/// `RunsWith` says what the journal that is handed back is worth. `audit [--entries N]` and
 /// `history [--entries N] NODE` read a journal's text, and write the verdict on it, or what was answered of the node:
 /// `RunsWithout` says what that is worth. Words that `command_of` takes for no command are `Usage`, and only those are;
 /// want of memory may stand in its place.
@@ -124,7 +146,7 @@ pub fn run_tool<S: Source + Drop, K: Sink + Drop>(
         → (result.outcome ≡ Outcome.Usage) ⊎ (result.outcome ≡ Outcome.NoMemory) }
     ensures session { let of_source = source_told S.given S.left S.faults in
         let of_sink = sink_told K.held K.unsent K.faults in
-        IfSome result.journal (RunsSession (command_of (map string_bytes words.now)) result.outcome
+        IfSome result.journal (RunsWith (command_of (map string_bytes words.now)) result.outcome
         (change (of_source source) (of_source result.source)) (change (of_sink sink) (of_sink result.sink))
         (record { made = result.polls; allowed = 4_294_967_295 })) }
     ensures without { let of_source = source_told S.given S.left S.faults in

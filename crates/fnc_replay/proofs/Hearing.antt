@@ -136,7 +136,7 @@ gives-heard line lines old e m rs r a l g =
         ap (λ (o : Option ℕ). unwrap_or o 0) (last_input-outputs m rs old.history (outputs-replies m rs r))
 
 -- a line that was served gave the newest input
-lines-served : (line : Happening) (lines : List Happening) (old new : Cored) →
+pub lines-served : (line : Happening) (lines : List Happening) (old new : Cored) →
     AreLines (timed old.limit) old.history lines → last_come old.history ≡ old.last → ServesLine line old new →
     AreLines (timed new.limit) new.history (line ∷ lines)
 lines-served line lines old new a l s =
@@ -168,7 +168,7 @@ lines-served line lines old new a l s =
         )
 
 -- and its moment is the last
-last-served : (line : Happening) (old new : Cored) → ServesLine line old new → last_come new.history ≡ new.last
+pub last-served : (line : Happening) (old new : Cored) → ServesLine line old new → last_come new.history ≡ new.last
 last-served line old new s =
     ap (λ (o : Option ℕ). unwrap_or o 0) found ∙ sym (s.starts.some.last ∙ entered-last s.takes.enters)
   where
@@ -188,7 +188,7 @@ last-served line old new s =
         ∙ rw is refl
 
 -- a line that finds no room
-lacks-room : (line : Happening) (lines : List Happening) (full : Full) (old new : Cored) →
+pub lacks-room : (line : Happening) (lines : List Happening) (full : Full) (old new : Cored) →
     AreLines (timed old.limit) old.history lines → last_come old.history ≡ old.last → LacksRoom line old new full →
     NewestFindsNoRoom (timed new.limit) (line ∷ lines) new full
 lacks-room line lines full old new a l k =

@@ -11,3 +11,5 @@ mod turn;
 mod turns;
 
 pub use session::{Replayed, replay};
+pub use starts::start_all;
+pub use timed::Timed;

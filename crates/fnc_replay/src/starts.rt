@@ -5,7 +5,7 @@ ghost use Rattle.fnc_replay.specs.Rests.{StartsAll};
 use crate::timed::Timed;
 
 /// Makes all starts that may be made at the last moment.
-pub(crate) fn start_all(desk: &mut Timed)
+pub fn start_all(desk: &mut Timed)
     ensures { StartsAll desk.old desk.new }
 {
     while let Some(_started) = desk.note_start() {}

@@ -17,7 +17,7 @@ use std::marker::Model;
 
 /// A desk whose lines say their moments. Contracts see the core.
 #[derive(Drop)]
-pub(crate) struct Timed {
+pub struct Timed {
     desk: Desk,
 }
 

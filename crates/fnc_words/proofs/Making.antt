@@ -6,7 +6,7 @@ use Rattle.clap.specs.declared.builder.arg.Arg.{Arg}
 use Rattle.clap.specs.declared.builder.command.Command.{Command}
 use Rattle.clap.proofs.CallerLemmas.{added_plain}
 use Rattle.clap.proofs.OnLiterals.{clap_on_literals}
-use Rattle.fnc_words.specs.Arguments.{entries_app, inquiry_app, session_app}
+use Rattle.fnc_words.specs.Arguments.{course_app, entries_app, inquiry_app, session_app}
 use Rattle.fnc_words.specs.Making.{IsArgument, IsExact, IsMadeAs}
 
 -- a command with an argument more
@@ -37,3 +37,7 @@ entries-exact name = record { simple = refl; free = refl; distinct = refl }
 pub inquiry-exact : (name : Text) → IsExact (inquiry_app name)
 unfolding clap_on_literals
 inquiry-exact name = record { simple = refl; free = refl; distinct = refl }
+
+pub course-exact : (name : Text) → IsExact (course_app name)
+unfolding clap_on_literals
+course-exact name = record { simple = refl; free = refl; distinct = refl }

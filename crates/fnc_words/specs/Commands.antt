@@ -8,10 +8,12 @@ use Rattle.fnc_words.specs.declared.audit.Audit.{Audit}
 use Rattle.fnc_words.specs.declared.command.Command.{Command}
 use Rattle.fnc_words.specs.declared.command.Name.{Name}
 use Rattle.fnc_words.specs.declared.command.WordsFault.{WordsFault}
+use Rattle.fnc_words.specs.declared.course.Course.{Course}
+use Rattle.fnc_words.specs.declared.course.TheConstants as course
 use Rattle.fnc_words.specs.declared.inquiry.Inquiry.{Inquiry}
 use Rattle.fnc_words.specs.declared.session.Session.{Session}
-use Rattle.fnc_words.specs.Arguments.{entries_app, inquiry_app, session_app, taken}
-use Rattle.fnc_words.specs.Values.{audit_in, inquiry_in, session_in}
+use Rattle.fnc_words.specs.Arguments.{course_app, entries_app, inquiry_app, session_app, taken}
+use Rattle.fnc_words.specs.Values.{audit_in, course_in, inquiry_in, session_in}
 
 -- the command that a word names
 abbrev pub named : Text → Option Name
@@ -19,6 +21,7 @@ named word =
     if bytes_eq word (codes "replay") then Some Name.Replay
     else if bytes_eq word (codes "audit") then Some Name.Audit
     else if bytes_eq word (codes "history") then Some Name.History
+    else if bytes_eq word (codes "workload") then Some Name.Workload
     else None
 
 -- how the words of a command want its session to run
@@ -33,12 +36,17 @@ audit_of name words = option_map audit_in (taken (entries_app name) words)
 abbrev pub inquiry_of : Text → List Text → Option Inquiry
 inquiry_of name words = option_and_then inquiry_in (taken (inquiry_app name) words)
 
+-- which course the words of a command want to run
+abbrev pub course_of : Text → List Text → Option Course
+course_of name words = option_and_then course_in (taken (course_app name) words)
+
 -- the command that words ask for, with its values
 abbrev pub command_by : Option Name → List Text → Option Command
 command_by None words = None
 command_by (Some Name.Replay) words = option_map Command.Replay (session_of (codes "replay") words)
 command_by (Some Name.Audit) words = option_map Command.Audit (audit_of (codes "audit") words)
 command_by (Some Name.History) words = option_map Command.History (inquiry_of (codes "history") words)
+command_by (Some Name.Workload) words = option_map Command.Workload (course_of (codes "workload") words)
 
 abbrev pub command_of : List Text → Option Command
 command_of [] = None
@@ -48,11 +56,16 @@ command_of (word ∷ words) = command_by (named word) (word ∷ words)
 abbrev pub IsWithinLimits : ℕ → Type 0
 IsWithinLimits entries = (limits.LEAST_JOURNAL ≤ entries) × (entries ≤ limits.GREATEST_JOURNAL)
 
+-- a course may have so many steps
+abbrev pub IsWithinSteps : ℕ → Type 0
+IsWithinSteps count = (course.LEAST_STEPS ≤ count) × (count ≤ course.MOST_STEPS)
+
 -- the values of a command are within their limits
 abbrev pub HasLimits : Command → Type 0
 HasLimits (Command.Replay session) = IsWithinLimits session.entries
 HasLimits (Command.Audit audit) = IsWithinLimits audit.entries
 HasLimits (Command.History inquiry) = IsWithinLimits inquiry.entries × IsTrue (is_name inquiry.node)
+HasLimits (Command.Workload course) = IsWithinSteps course.count
 
 -- words are refused where they ask for nothing, or for want of memory
 abbrev pub IsRefused : {A : Type 0} → Option A → WordsFault → Type 0

@@ -9,6 +9,7 @@ use Rattle.fnc_journal.specs.Names.{is_name}
 use Rattle.fnc_journal.specs.declared.limits.TheConstants as limits
 use Rattle.fnc_journal_text.specs.declared.form.Form.{Form}
 use Rattle.fnc_words.specs.declared.audit.Audit.{Audit}
+use Rattle.fnc_words.specs.declared.course.Course.{Course}
 use Rattle.fnc_words.specs.declared.inquiry.Inquiry.{Inquiry}
 use Rattle.fnc_words.specs.declared.session.Session.{Session}
 
@@ -35,6 +36,14 @@ named_node text = if is_name text then Some text else None
 abbrev pub node_of : List Row → Option Text
 node_of rows = option_and_then named_node (first_of (codes "node") rows)
 
+-- the number that a course begins with
+abbrev pub number_of : List Row → Option ℕ
+number_of rows = option_map number_in (one_of (codes "number") rows)
+
+-- the number of steps of a course
+abbrev pub count_of : List Row → Option ℕ
+count_of rows = option_map number_in (one_of (codes "count") rows)
+
 -- how a session is to run
 abbrev pub session_in : List Row → Session
 session_in rows = record { entries = entries_of rows; form = form_of rows }
@@ -46,3 +55,8 @@ audit_in rows = record { entries = entries_of rows }
 -- which node is asked for, and how the journal is to be read
 abbrev pub inquiry_in : List Row → Option Inquiry
 inquiry_in rows = option_map (λ node. record { entries = entries_of rows; node = node }) (node_of rows)
+
+-- which course is to run
+abbrev pub course_in : List Row → Option Course
+course_in rows = option_and_then (λ number. option_map (λ count. record { number = number; count = count })
+    (count_of rows)) (number_of rows)

@@ -1,9 +1,11 @@
 // The arguments that the words of a command may have.
 
 ghost use Rattle.std.specs.Prelude.{IfOk};
-ghost use Rattle.fnc_words.specs.Arguments.{entries_app, entries_rule, journal_rule, node_rule, plain_app};
+ghost use Rattle.fnc_words.specs.Arguments.{count_rule, entries_app, entries_rule, journal_rule, node_rule};
+ghost use Rattle.fnc_words.specs.Arguments.{number_rule, plain_app};
 ghost use Rattle.fnc_words.specs.Making.{IsArgument, IsMadeAs};
 
+use crate::course::{LEAST_STEPS, MOST_STEPS};
 use clap::{Arg, ArgAction, Command, value_parser};
 use fnc_journal::limits::{GREATEST_JOURNAL, LEAST_JOURNAL};
 use std::alloc::{AllocError, Global};
@@ -52,4 +54,24 @@ pub(crate) fn node_argument<'a>(alloc: Global) -> Arg<'a>
         .required(true)
         .action(ArgAction::Set)
         .value_parser(value_parser!(String))
+}
+
+/// `NUMBER`: what a course begins with.
+pub(crate) fn number_argument<'a>(alloc: Global) -> Arg<'a>
+    ensures { IsArgument number_rule result }
+{
+    Arg::new(alloc, "number")
+        .required(true)
+        .action(ArgAction::Set)
+        .value_parser(value_parser!(u64))
+}
+
+/// `COUNT`: the number of steps of a course.
+pub(crate) fn count_argument<'a>(alloc: Global) -> Arg<'a>
+    ensures { IsArgument count_rule result }
+{
+    Arg::new(alloc, "count")
+        .required(true)
+        .action(ArgAction::Set)
+        .value_parser(value_parser!(u32).range(i64::from(LEAST_STEPS)..=i64::from(MOST_STEPS)))
 }

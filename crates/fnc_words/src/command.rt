@@ -5,6 +5,7 @@ ghost use Rattle.fnc_words.specs.declared.command.WordsFault.TheVariants as faul
 ghost use Rattle.fnc_words.specs.Commands.{HasLimits, IsRefused, command_by, command_of, named};
 
 use crate::audit::{Audit, read_audit};
+use crate::course::{Course, read_course};
 use crate::inquiry::{Inquiry, read_inquiry};
 use crate::session::{Session, read_session};
 use fnc_journal::NoMemory;
@@ -16,6 +17,7 @@ pub enum Name {
     Replay,
     Audit,
     History,
+    Workload,
 }
 
 /// What a command line asks for: the command with its values.
@@ -27,6 +29,8 @@ pub enum Command {
     Audit(Audit),
     /// The replies to the requests for a node are listed.
     History(Inquiry),
+    /// A session is made, run and summed up.
+    Workload(Course),
 }
 
 /// Why words are read as no command.
@@ -63,6 +67,7 @@ impl Name {
             "replay" => Some(Name::Replay),
             "audit" => Some(Name::Audit),
             "history" => Some(Name::History),
+            "workload" => Some(Name::Workload),
             _ => None,
         }
     }
@@ -78,12 +83,13 @@ fn read_named(alloc: Global, name: Name, words: &[String]) -> Result<Command, Wo
         Name::Replay => Ok(Command::Replay(read_session(alloc, "replay", words)?)),
         Name::Audit => Ok(Command::Audit(read_audit(alloc, "audit", words)?)),
         Name::History => Ok(Command::History(read_inquiry(alloc, "history", words)?)),
+        Name::Workload => Ok(Command::Workload(read_course(alloc, "workload", words)?)),
     }
 }
 
 /// Reads the words of a command line, without the program's own name: `replay [--entries N] [--journal]`,
-/// `audit [--entries N]` or `history [--entries N] NODE`. Other words are `NoCommand`, and so is a node that is no name;
-/// want of memory may stand in its place.
+/// `audit [--entries N]`, `history [--entries N] NODE` or `workload NUMBER COUNT`. Other words are `NoCommand`, and so
+/// is a node that is no name; want of memory may stand in its place.
 pub fn read_words(alloc: Global, words: &[String]) -> Result<Command, WordsFault>
     ensures reads { MatchResult result (λ c. command_of (map string_bytes words.now) ≡ Some c)
         (IsRefused (command_of (map string_bytes words.now))) }

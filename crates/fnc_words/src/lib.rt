@@ -5,6 +5,7 @@
 mod argument;
 mod audit;
 mod command;
+mod course;
 mod inquiry;
 mod matching;
 mod session;
@@ -12,5 +13,6 @@ mod value;
 
 pub use audit::Audit;
 pub use command::{Command, Name, WordsFault, read_words};
+pub use course::{Course, LEAST_STEPS, MOST_STEPS};
 pub use inquiry::Inquiry;
 pub use session::Session;

@@ -1,11 +1,11 @@
 // The values that were found in the words of a command. Each passed the parser of its argument.
 
-ghost use Rattle.std.specs.Prelude.{◌≡◌, option_map};
+ghost use Rattle.std.specs.Prelude.{◌≡◌, IfSome, option_map};
 ghost use Rattle.clap.specs.Words.{found_of, rows_of};
-ghost use Rattle.fnc_words.specs.Arguments.{entries_rule, journal_rule};
-ghost use Rattle.fnc_words.specs.Commands.{IsWithinLimits};
+ghost use Rattle.fnc_words.specs.Arguments.{count_rule, entries_rule, journal_rule, number_rule};
+ghost use Rattle.fnc_words.specs.Commands.{IsWithinLimits, IsWithinSteps};
 ghost use Rattle.fnc_words.specs.Making.{HasPassed};
-ghost use Rattle.fnc_words.specs.Values.{entries_of, form_by, form_of, named_node, node_of};
+ghost use Rattle.fnc_words.specs.Values.{count_of, entries_of, form_by, form_of, named_node, node_of, number_of};
 
 use clap::ArgMatches;
 use fnc_journal::limits::DEFAULT_JOURNAL;
@@ -52,4 +52,21 @@ pub(crate) fn node_of<'a>(matches: &ArgMatches<'a>) -> Option<&'a str>
     ensures { option_map (λ s. s.now) result ≡ node_of (rows_of (found_of matches.now)) }
 {
     named_node(matches.get_str("node")?)
+}
+
+/// What a course begins with.
+pub(crate) fn number_of(matches: &ArgMatches) -> Option<u64>
+    requires { HasPassed (rows_of (found_of matches.now)) number_rule }
+    ensures { result ≡ number_of (rows_of (found_of matches.now)) }
+{
+    matches.get_one::<u64>("number")
+}
+
+/// The number of steps of a course.
+pub(crate) fn count_of(matches: &ArgMatches) -> Option<u32>
+    requires { HasPassed (rows_of (found_of matches.now)) count_rule }
+    ensures reads { result ≡ count_of (rows_of (found_of matches.now)) }
+    ensures within { IfSome result IsWithinSteps }
+{
+    matches.get_one::<u32>("count")
 }
