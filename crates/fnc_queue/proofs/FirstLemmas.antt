@@ -1,41 +1,13 @@
 -- The first to start is the least of those that may start.
-use Rattle.std.proofs.Common.{
-  ℕ,
-  List,
-  [],
-  ◌∷◌,
-  Bool,
-  true,
-  false,
-  ◌≡◌,
-  ◌<◌,
-  ◌+◌,
-  refl,
-  sym,
-  ap,
-  ◌∙◌,
-  subst,
-  Option,
-  Some,
-  None,
-  is_some,
-  arith,
-  add-one,
-  suc,
-  zero,
-  eq-eqb,
-  Bor,
-  IfSome,
-  cond,
-  ◌==◌,
-  ◌||◌,
-}
+use Rattle.std.proofs.Common.{ℕ, List, [], ◌∷◌, Bool, true, false, ◌≡◌, ◌+◌, refl, sym, ap, ◌∙◌, subst, Option, Some, None, is_some, arith, add-one, suc, zero, eq-eqb, Bor, IfSome, cond, ◌==◌, ◌||◌}
 use Rattle.std.specs.Option.{option_copied}
 use Rattle.std.specs.List.{list_any, AllByRecursion, Contains}
 use Rattle.fnc_journal.specs.declared.entry.Reg.{Reg}
 use Rattle.fnc_queue.specs.declared.waiting.Waiting.{Waiting}
 use Rattle.fnc_queue.specs.Items.{is_waiting, item_of, InOrder}
-use Rattle.fnc_queue.proofs.Numbers.{other-number}
+use Rattle.fnc_queue.specs.Lines.{AreApart}
+use Rattle.fnc_queue.proofs.Numbers.{same-number}
+use Rattle.fnc_queue.proofs.OrderLemmas.{order-apart}
 use Rattle.fnc_queue.specs.Queued.{Queued}
 use Rattle.fnc_queue.specs.Places.{may_start, is_before, soonest, first_among, first_of, any_may_start, IsFirst}
 
@@ -49,6 +21,16 @@ before-asymmetric a b h = grind arith
 pub before-negative : (a b c : Waiting) → is_before a b ≡ false → is_before b c ≡ false → is_before a c ≡ false
 before-negative a b c h k = grind arith
 
+pub before-transitive : (a b c : Waiting) → is_before a b ≡ true → is_before b c ≡ true → is_before a c ≡ true
+before-transitive a b c h k = grind arith
+
+pub before-total : (a b : Waiting) → is_before a b ≡ false → (a.req.0 == b.req.0) ≡ false → is_before b a ≡ true
+before-total a b h k = grind arith
+
+-- two neither of which comes before the other are of one operation
+pub before-tie : (a b : Waiting) → is_before a b ≡ false → is_before b a ≡ false → a.req.0 ≡ b.req.0
+before-tie a b h k = grind arith
+
 -- no item of the list that may start comes before this one
 abbrev pub IsLeast : ℕ → List Reg → Waiting → List Waiting → Type 0
 IsLeast m alive item items =
@@ -59,10 +41,10 @@ abbrev pub Leads : ℕ → List Reg → List Waiting → Option Waiting → Type
 Leads m alive items None = AllByRecursion (λ other. may_start m alive other ≡ false) items
 Leads m alive items (Some item) = Contains items item × (may_start m alive item ≡ true) × IsLeast m alive item items
 
-contains-later : (item other : Waiting) (items : List Waiting) → Contains items item → Contains (other ∷ items) item
+pub contains-later : (item other : Waiting) (items : List Waiting) → Contains items item → Contains (other ∷ items) item
 contains-later item other items (k, l, e) = (k + 1, omega (arith, l), rw add-one e)
 
-contains-here : (item : Waiting) (items : List Waiting) → Contains (item ∷ items) item
+pub contains-here : (item : Waiting) (items : List Waiting) → Contains (item ∷ items) item
 contains-here item items = (0, omega arith, refl)
 
 -- its operation has a try that waits
@@ -125,29 +107,37 @@ first-is-first m q item e =
     record { waits = l.0; starts = l.1; least = l.2 }
 
 -- what holds of each item holds of one that is in the list
-each-contained : (P : Waiting → Type 0) (items : List Waiting) (item : Waiting) → AllByRecursion P items →
+pub each-contained : (P : Waiting → Type 0) (items : List Waiting) (item : Waiting) → AllByRecursion P items →
     Contains items item → P item
 each-contained P [] item a (k, l, e) = absurd (omega (arith, l))
 each-contained P (x ∷ items) item a (zero, l, e) = subst P e a.0
 each-contained P (x ∷ items) item a (suc k, l, e) = each-contained P items item a.1 (k, omega (arith, l), e)
 
 -- an operation has no other item than this one
-pub contained-own : (item : Waiting) (items : List Waiting) → InOrder items → Contains items item →
+pub contained-own : (item : Waiting) (items : List Waiting) → AreApart items → Contains items item →
     item_of item.req.0 items ≡ Some item
 contained-own item [] o (k, l, e) = absurd (omega (arith, l))
 contained-own item (x ∷ items) o (zero, l, e) =
     subst (λ (w : Waiting). item_of w.req.0 (x ∷ items) ≡ Some w) e
     (let same : (x.req.0 == x.req.0) ≡ true = eq-eqb x.req.0 x.req.0 refl in rw same refl)
 contained-own item (x ∷ items) o (suc k, l, e) =
-    let later : x.req.0 < item.req.0 = each-contained (λ other. x.req.0 < other.req.0) items item o.0
-    (k, omega (arith, l), e) in
-    let other : (x.req.0 == item.req.0) ≡ false = other-number x.req.0 item.req.0 later in
-    rw other (contained-own item items o.1 (k, omega (arith, l), e))
+    go (x.req.0 == item.req.0) refl (contained-waits item items later) (contained-own item items o.1 later)
+  where
+    later : Contains items item
+    later = (k, omega (arith, l), e)
+
+    go : (b : Bool) → (x.req.0 == item.req.0) ≡ b → is_waiting item.req.0 items ≡ true →
+        item_of item.req.0 items ≡ Some item → cond b (Some x) (item_of item.req.0 items) ≡ Some item
+    go true f w own =
+        absurd (let here : is_waiting x.req.0 items ≡ true = subst (λ n. is_waiting n items ≡ true)
+        (sym (same-number x.req.0 item.req.0 f)) w in
+        let both : true ≡ false = sym here ∙ o.0 in cc)
+    go false f w own = own
 
 -- so it is with the first of a queue
 pub first-own : (m : ℕ) (q : Queued) (item : Waiting) → InOrder q.waiting → IsFirst m q item →
     item_of item.req.0 q.waiting ≡ Some item
-first-own m q item o f = contained-own item q.waiting o f.waits
+first-own m q item o f = contained-own item q.waiting (order-apart q.waiting o) f.waits
 
 -- the same of a reference to it
 pub borrowed-some : (m : ℕ) (q : Queued) (o : Option (Bor Waiting)) → option_copied o ≡ first_of m q →

@@ -4,6 +4,7 @@
 
 mod items;
 mod lanes;
+mod lines;
 mod queue;
 mod waiting;
 

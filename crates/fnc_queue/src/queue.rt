@@ -7,8 +7,8 @@ ghost use Rattle.fnc_queue.specs.Lanes as Lanes;
 ghost use Rattle.fnc_queue.specs.Places.{IsFirst, any_may_start, first_of};
 ghost use Rattle.fnc_queue.specs.Queued.{empty_queue, reserved, added, withdrawn, started, ended};
 
-use crate::waiting::{Waiting, first_among};
-use crate::{items, lanes};
+use crate::waiting::Waiting;
+use crate::{items, lanes, lines};
 use fnc_journal::{NoMemory, Reg, Req};
 use std::alloc::Global;
 use std::marker::Model;
@@ -18,13 +18,17 @@ use std::marker::Model;
 #[derive(Debug, Drop)]
 pub struct Queue {
     waiting: Vec<Waiting>,
+    // The same items in line: for each lane and limit the one that can start first stands first.
+    lines: Vec<Waiting>,
     alive: Vec<Reg>,
     spare: u32,
 }
 
 impl Model for Queue {
-    ghost use Rattle.std.specs.Prelude.{◌≤◌, ◌<◌, ◌+◌, ◌^◌, vec_len, vec_capacity};
+    ghost use Rattle.std.specs.Prelude.{◌≡◌, ◌≤◌, ◌<◌, ◌+◌, ◌^◌, vec_len, vec_capacity};
     ghost use Rattle.fnc_queue.specs.Items.{InOrder};
+    ghost use Rattle.fnc_queue.specs.Lanes.{InLanes};
+    ghost use Rattle.fnc_queue.specs.Lines.{IsLined};
     ghost use Rattle.fnc_queue.specs.Queued.{Queued};
 
     ghost Value = { Queued };
@@ -33,9 +37,13 @@ impl Model for Queue {
 
     ghost invariant = { λ q.
         (vec_len q.waiting + vec_len q.alive + q.spare ≤ vec_capacity q.waiting)
+        × (vec_len q.lines ≡ vec_len q.waiting)
+        × (vec_len q.waiting + vec_len q.alive + q.spare ≤ vec_capacity q.lines)
         × (vec_len q.waiting + vec_len q.alive + q.spare ≤ vec_capacity q.alive)
         × (vec_len q.waiting + vec_len q.alive + q.spare < 2 ^ 32)
-        × InOrder q.waiting.items };
+        × InOrder q.waiting.items
+        × InLanes q.alive.items
+        × IsLined q.waiting.items q.lines.items };
 }
 
 impl Queue {
@@ -45,6 +53,7 @@ impl Queue {
     {
         Queue {
             waiting: Vec::new(alloc),
+            lines: Vec::new(alloc),
             alive: Vec::new(alloc),
             spare: 0,
         }
@@ -64,6 +73,7 @@ impl Queue {
             return Err(NoMemory);
         }
         self.waiting.reserve(self.alive.len() + items as usize)?;
+        self.lines.reserve(self.alive.len() + items as usize)?;
         self.alive.reserve(self.waiting.len() + items as usize)?;
         self.spare = items;
         Ok(())
@@ -77,6 +87,7 @@ impl Queue {
         ensures changes { Items.Changes item.req.0 (Some item) self.old.waiting self.new.waiting }
     {
         items::insert(&mut self.waiting, item);
+        lines::insert(&mut self.lines, item);
         self.spare -= 1;
     }
 
@@ -88,6 +99,7 @@ impl Queue {
         ensures changes { Items.Changes req.0 None self.old.waiting self.new.waiting }
     {
         let item = items::remove(&mut self.waiting, req)?;
+        lines::remove(&mut self.lines, &item);
         self.spare += 1;
         Some(item)
     }
@@ -101,7 +113,7 @@ impl Queue {
         ensures least { IfSome result (λ item. IsFirst moment self.now item.now) }
         ensures own { IfSome result (λ item. Items.item_of item.now.req.0 self.now.waiting ≡ Some item.now) }
     {
-        first_among(&self.waiting, moment, &self.alive)
+        lines::first_among(&self.lines, moment, &self.alive)
     }
 
     /// Takes that item, which has been started: one more run of its lane is alive, in the item's place.
@@ -114,10 +126,11 @@ impl Queue {
         ensures changes { IfSome result (λ item. Items.Changes item.req.0 None self.old.waiting self.new.waiting) }
         ensures counts { IfSome result (λ item. Lanes.CountsOneMore item.lane.0 self.old.alive self.new.alive) }
     {
-        let item = *self.first(moment)?;
-        items::remove(&mut self.waiting, item.req);
-        lanes::insert(&mut self.alive, item.lane);
-        Some(item)
+        let first = *self.first(moment)?;
+        items::remove(&mut self.waiting, first.req);
+        lines::remove(&mut self.lines, &first);
+        lanes::insert(&mut self.alive, first.lane);
+        Some(first)
     }
 
     /// A run of a lane has ended, and gives its place back.
