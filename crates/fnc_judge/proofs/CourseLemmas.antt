@@ -4,6 +4,7 @@ use Rattle.std.proofs.Common.{
   List,
   [],
   ◌∷◌,
+  ◌++◌,
   Bool,
   true,
   false,
@@ -274,3 +275,16 @@ since-is p m acts =
         max 0 g ≡ max q (greatest_concluded o m acts (slots_of (ranks o m acts))) →
         max 0 (greatest_concluded o m acts (slots_of (ranks o m acts))) ≡ max s o.begin → max a (max b o.begin) ≡ g
     joined a b q s g e f x y = omega (arith, e, f, x, y)
+
+-- while nothing was started it stands there since it began
+pub since-idle : (o : Operation) (m : ℕ) → since o m [] ≡ o.begin
+since-idle o m = go (queries o ++ slots_of (ranks o m []))
+  where
+    go : (ts : List Task) → greatest_concluded o m [] ts ≡ o.begin
+    go [] = refl
+    go (t ∷ ts) = pick (concluded t o.over m []) (go ts)
+      where
+        pick : (b : Bool) → greatest_concluded o m [] ts ≡ o.begin →
+            cond b (max o.begin (greatest_concluded o m [] ts)) (greatest_concluded o m [] ts) ≡ o.begin
+        pick true e = omega (arith, e)
+        pick false e = e

@@ -17,8 +17,8 @@ use crate::gathered::Gathered;
 use crate::survey::{Survey, survey_levels};
 use fnc_journal::{Kind, Phase, Scope};
 use fnc_search::{
-    Candidate, Device, Last, Operation, Past, Task, act_task, device_of, looked_at, next_candidate,
-    query_of,
+    Candidate, Device, Last, Operation, Past, Task, act_task, device_of, is_idle, looked_at,
+    next_candidate, query_of,
 };
 use std::marker::Model;
 
@@ -387,13 +387,16 @@ fn since_by(course: &Course<'_>, begin: u64) -> u128
     course.queries.greatest.max(greatest)
 }
 
-/// Since when an operation stands where it stands.
+/// Since when an operation stands where it stands: since it began, while no run of it was started.
 fn since(operation: &Operation<'_>, moment: u64, past: &Past<'_>) -> u128
     requires { Lawful past.now }
     ensures since { result
         ≡ Standing.since (Pursued.operation operation.now) moment (Acts.acts operation.now.req past.now) }
     ensures small { result < 2 ^ 65 }
 {
+    if is_idle(past, operation.req()) {
+        return u128::from(operation.begin());
+    }
     since_by(&course_of(operation, moment, past), operation.begin())
 }
 

@@ -6,6 +6,7 @@ pub mod Rising
 pub mod OldestLevels
 pub mod Looks
 pub mod Numbered
+pub mod Chained
 pub mod Setups
 pub mod Ordered
 pub mod Queue

@@ -91,10 +91,11 @@ some : {X : Type 0} (x : Option X) → true ≡ is_some x → is_some (or_here N
 some None p = cc
 some (Some x) p = refl
 
-before-newest : (e : Entry) (h : History) → prefix (length h) (e ∷ h) ≡ h
+-- what lies before the newest entry, and before an older one
+pub before-newest : (e : Entry) (h : History) → prefix (length h) (e ∷ h) ≡ h
 before-newest e h = rw (le-ltb (length h) (length h) (omega arith)) (prefix-all h (length h) (omega arith))
 
-before-older : (e : Entry) (h : History) (i : ℕ) → i < length h → prefix i (e ∷ h) ≡ prefix i h
+pub before-older : (e : Entry) (h : History) (i : ℕ) → i < length h → prefix i (e ∷ h) ≡ prefix i h
 before-older e h i l = rw (le-ltb (length h) i (omega (arith, l))) refl
 
 asked-newest : (r : ℕ) (e : Entry) (h : History) →

@@ -1,6 +1,6 @@
-// From which entry on a lawful journal may speak of an operation.
+// From which entry on a lawful journal may speak of an operation, and whether it does.
 
-ghost use Rattle.std.specs.Prelude.{◌≡◌, ◌≤◌, [], None, length};
+ghost use Rattle.std.specs.Prelude.{◌≡◌, ◌≤◌, [], None, length, true};
 ghost use Rattle.fnc_journal.specs.Acts.{acts};
 ghost use Rattle.fnc_journal.specs.Found.{asked};
 ghost use Rattle.fnc_journal.specs.Lawful.{Lawful};
@@ -21,5 +21,16 @@ pub fn begun_from(past: &Past<'_>, req: u32) -> u32
     match past.ask_at(req) {
         Some(at) => at,
         None => 0,
+    }
+}
+
+/// Whether no run of an operation was started.
+pub fn is_idle(past: &Past<'_>, req: u32) -> bool
+    requires { Lawful past.now }
+    ensures { result ≡ true → acts req past.now ≡ [] }
+{
+    match past.latest(req) {
+        Some(_) => false,
+        None => true,
     }
 }

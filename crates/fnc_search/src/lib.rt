@@ -1,6 +1,6 @@
-// What the first entries of a journal say, sought from the oldest one on: the registration, request and
-// run of a number, the levels that stand for a node, what was seen of a slot, and the candidates of a
-// request. Each search equals its definition, for journals from anywhere, and takes no memory.
+// What the first entries of a journal say: the registration, request and run of a number, which its index
+// finds, the levels that stand for a node, what was seen of a slot, by the entries of its operation alone, and
+// the candidates of a request. Each answer equals its definition, for journals from anywhere, and takes no memory.
 #![tactic(auto)]
 
 mod begun;
@@ -15,7 +15,7 @@ mod registered;
 mod seen;
 mod task;
 
-pub use begun::begun_from;
+pub use begun::{begun_from, is_idle};
 pub use candidates::{After, Candidate, next_candidate, query_of};
 pub use found::{Asked, has_exit, is_answered, lead, registration, request, start_of};
 pub use level::{Level, Target, level_of, oldest, pattern_at, scoped_target, stands, top_of};

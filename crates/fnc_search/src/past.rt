@@ -157,6 +157,22 @@ impl<'a> Past<'a> {
         self.within(self.journal.exit_at(Run(run)))
     }
 
+    /// Where the newest entry of an operation stands.
+    pub fn latest(&self, req: u32) -> Option<u32>
+        ensures at { result ≡ Links.latest req self.now }
+        ensures within { IfSome result (λ i. i < length self.now) }
+    {
+        latest_below(self.journal, self.len, req)
+    }
+
+    /// Where the entry of the same operation stands that comes before an entry.
+    pub fn earlier(&self, index: u32) -> Option<u32>
+        requires { index < length self.now }
+        ensures { result ≡ Links.earlier index self.now }
+    {
+        self.journal.earlier(index)
+    }
+
     /// Where the registration of a number is made first.
     pub fn device_at(&self, reg: u32) -> Option<u32>
         ensures at { result ≡ Links.device_at reg self.now }
@@ -164,4 +180,19 @@ impl<'a> Past<'a> {
     {
         self.within(self.journal.device_at(Reg(reg)))
     }
+}
+
+/// Where the newest entry of an operation stands among the first entries of a journal.
+fn latest_below(journal: &Journal, len: u32, req: u32) -> Option<u32>
+    requires { len ≤ length journal.now.history }
+    ensures { result ≡ Links.latest req (prefix len journal.now.history) }
+{
+    let mut found = journal.latest(Req(req));
+    while let Some(at) = found {
+        if at < len {
+            return found;
+        }
+        found = journal.earlier(at);
+    }
+    None
 }

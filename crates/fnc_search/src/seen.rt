@@ -1,16 +1,15 @@
 // What the runs of an operation say of a slot.
 
-ghost use Rattle.std.specs.Prelude.{◌≡◌, ◌<◌, ◌&&◌, ◌+◌, ◌-◌, ◌^◌, ℕ, [], IfSome, Some};
+ghost use Rattle.std.specs.Prelude.{◌≡◌, ◌<◌, ◌&&◌, ◌+◌, ◌-◌, ◌^◌, ℕ, [], IfSome, Some, length};
 ghost use Rattle.fnc_journal.specs.Acts as Acts;
 ghost use Rattle.fnc_journal.specs.Slots as Slots;
-ghost use Rattle.fnc_journal.specs.Prefix.{prefix};
+ghost use Rattle.fnc_journal.specs.Links as Links;
 ghost use Rattle.fnc_journal.specs.Missing as Missing;
 ghost use Rattle.fnc_journal.specs.Lawful.{Lawful};
 ghost use Rattle.fnc_search.specs.Seen.{answered_by, concluded_at_by, concluded_by, confirmed_by, end_by};
 ghost use Rattle.fnc_search.specs.Seen.{is_in_time_by, seen_begun, seen_ended, seen_exit, seen_failure, seen_in_time};
 ghost use Rattle.fnc_search.specs.Seen.{seen_of, seen_success, seen_with, slot_for, spent_by};
 
-use crate::begun::begun_from;
 use crate::found::start_of;
 use crate::past::Past;
 use crate::task::Task;
@@ -29,7 +28,7 @@ pub enum Last {
 #[derive(Clone, Copy)]
 pub struct Seen {
     pub begun: Option<u64>,
-    pub failed: u32,
+    pub failed: u64,
     pub success: Option<u64>,
     pub last_failure: Option<u64>,
     pub listed: bool,
@@ -119,11 +118,11 @@ impl Seen {
 
     /// With one more failure.
     fn failed(self, tries: u8, moment: u64) -> Seen
-        requires { self.failed < 2 ^ 32 - 1 }
+        requires { self.failed < 2 ^ 64 - 1 }
         ensures { result ≡ seen_failure self tries moment }
     {
         let failed = self.failed + 1;
-        let last_failure = if failed == u32::from(tries) {
+        let last_failure = if failed == u64::from(tries) {
             first_of(self.last_failure, moment)
         } else {
             self.last_failure
@@ -137,7 +136,7 @@ impl Seen {
 
     /// With one more exit in time.
     fn in_time(self, task: &Task<'_>, moment: u64, ended: &Ended) -> Seen
-        requires { self.failed < 2 ^ 32 - 1 }
+        requires { self.failed < 2 ^ 64 - 1 }
         ensures { result ≡ seen_in_time task.now self moment ended.now.exit ended.now.listed }
     {
         if ended.exit.is_success_of(task.kind()) {
@@ -149,7 +148,7 @@ impl Seen {
 
     /// With one more exit of the slot.
     fn exited(self, task: &Task<'_>, over: u128, moment: u64, ended: &Ended) -> Seen
-        requires { self.failed < 2 ^ 32 - 1 }
+        requires { self.failed < 2 ^ 64 - 1 }
         ensures { result ≡ seen_exit task.now over self moment ended.now.exit ended.now.listed }
     {
         if is_in_time(task, over, self.begun, moment) {
@@ -161,7 +160,7 @@ impl Seen {
 
     /// With one more exit.
     fn ended(self, task: &Task<'_>, over: u128, moment: u64, slot: Slot, ended: &Ended) -> Seen
-        requires { self.failed < 2 ^ 32 - 1 }
+        requires { self.failed < 2 ^ 64 - 1 }
         ensures { result ≡ seen_ended task.now over self moment slot ended.now.exit ended.now.listed }
     {
         if task.is_for(slot) {
@@ -177,7 +176,7 @@ impl Seen {
 
     /// With one more entry.
     fn after(self, task: &Task<'_>, over: u128, before: &Past<'_>, req: u32, entry: &Entry) -> Seen
-        requires few { self.failed < 2 ^ 32 - 1 }
+        requires few { self.failed < 2 ^ 64 - 1 }
         requires lawful { Lawful before.now }
         ensures { result
             ≡ seen_with task.now over self
@@ -226,7 +225,7 @@ impl Seen {
     pub fn is_spent(self, task: &Task<'_>, moment: u64) -> bool
         ensures { result ≡ spent_by task.now moment self }
     {
-        self.failed == u32::from(task.tries()) || has_come(self.end(task), moment)
+        self.failed == u64::from(task.tries()) || has_come(self.end(task), moment)
     }
 
     /// Whether the slot is concluded.
@@ -280,17 +279,21 @@ fn has_come(end: Option<u128>, moment: u64) -> bool
     }
 }
 
-/// What the runs of an operation say of a slot, where no run was started before the entry of a number.
-fn looked_from(past: &Past<'_>, req: u32, task: &Task<'_>, over: u128, from: u32) -> Seen
+/// What the runs of an operation say of a slot, from the newest entry of the operation back.
+fn looked_back(past: &Past<'_>, req: u32, task: &Task<'_>, over: u128, newest: Option<u32>) -> Seen
     requires lawful { Lawful past.now }
-    requires idle { Acts.acts req (prefix from past.now) ≡ [] }
+    requires newest { newest ≡ Links.latest req past.now }
+    requires within { IfSome newest (λ i. i < length past.now) }
     ensures { result ≡ seen_of task.now over (Acts.acts req past.now) }
 {
-    let mut found = Seen::nothing();
-    for i in from..past.len() {
-        found = found.after(task, over, &past.before(i), req, past.entry(i));
+    match newest {
+        None => Seen::nothing(),
+        Some(at) => {
+            let before = past.before(at);
+            let seen = looked_back(&before, req, task, over, past.earlier(at));
+            seen.after(task, over, &before, req, past.entry(before.len()))
+        }
     }
-    found
 }
 
 /// What the runs of an operation say of a slot, after entries that are lawful.
@@ -298,5 +301,5 @@ pub fn looked_at(past: &Past<'_>, req: u32, task: &Task<'_>, over: u128) -> Seen
     requires { Lawful past.now }
     ensures { result ≡ seen_of task.now over (Acts.acts req past.now) }
 {
-    looked_from(past, req, task, over, begun_from(past, req))
+    looked_back(past, req, task, over, past.latest(req))
 }
