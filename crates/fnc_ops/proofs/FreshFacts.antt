@@ -44,10 +44,11 @@ use Rattle.fnc_journal.specs.Slots.{
 }
 use Rattle.fnc_journal.proofs.Each.{each-map}
 use Rattle.fnc_records.specs.LevelFacts.{IsLevelSlot, IsQuery, IsLevel}
-use Rattle.fnc_records.specs.OperationFacts.{IsCandidate, AreDistinct}
+use Rattle.fnc_records.specs.OperationFacts.{IsCandidate}
+use Rattle.fnc_stands.specs.Distinct.{AreDistinct}
 use Rattle.fnc_ops.specs.FreshRecords.{fresh_slot, fresh_level, fresh_candidate}
 use Rattle.fnc_ops.specs.Stands.{AreBounded}
-use Rattle.fnc_records.proofs.Distinct.{other-place}
+use Rattle.fnc_stands.proofs.Distinct.{other-place}
 use Rattle.fnc_records.proofs.LevelSteps.{ForSome}
 use Rattle.fnc_ops.proofs.FreshDevices.{IsBoundedDevice, bounded-device, bounded-devices}
 use Rattle.fnc_ops.proofs.FreshSlots.{level_slot-fresh, query_slot-fresh}

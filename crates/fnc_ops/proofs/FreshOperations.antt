@@ -23,13 +23,13 @@ use Rattle.fnc_journal.specs.Slots.{
 use Rattle.fnc_journal.specs.Standing.{queries_concluded}
 use Rattle.fnc_journal.specs.Owed.{untried, tries_of}
 use Rattle.fnc_ops.specs.declared.ops.Operation.{Operation as Request}
+use Rattle.fnc_stands.specs.Distinct.{AreDistinct}
 use Rattle.fnc_records.specs.declared.slot.SlotRecord.{SlotRecord}
 use Rattle.fnc_records.specs.KeptLevel.{KeptLevel}
 use Rattle.fnc_records.specs.KeptOperation.{KeptOperation}
 use Rattle.fnc_records.specs.LevelRecords.{is_queried}
 use Rattle.fnc_records.specs.LevelFacts.{IsQuerySlot, IsLevel}
 use Rattle.fnc_records.specs.OperationFacts.{
-  AreDistinct,
   IsOperation,
   IsCandidate,
   kept_queries,

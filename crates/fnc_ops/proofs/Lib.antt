@@ -11,6 +11,7 @@ pub mod StandsReplies
 pub mod StandsMoments
 pub mod StandsJoins
 pub mod Waits
+pub mod StillWaits
 pub mod Behind
 pub mod Apart
 pub mod OpenOperations

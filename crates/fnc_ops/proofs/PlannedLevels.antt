@@ -10,8 +10,8 @@ use Rattle.fnc_journal.specs.Plan.{Wanted, plan, plan_level}
 use Rattle.fnc_journal.specs.Slots.{rank_of, place_of, slots_of}
 use Rattle.fnc_journal.proofs.Each.{each-map}
 use Rattle.fnc_journal.proofs.RisingLevels.{Above, Rising, scoped-rising}
-use Rattle.fnc_records.specs.OperationFacts.{AreDistinct}
-use Rattle.fnc_records.proofs.Distinct.{AreOfLevel, AreRising, rank-distinct, ranks-distinct}
+use Rattle.fnc_stands.specs.Distinct.{AreDistinct}
+use Rattle.fnc_stands.proofs.Distinct.{AreOfLevel, AreRising, rank-distinct, ranks-distinct}
 
 -- the indices of levels are no less than a number
 abbrev AreFrom : ℕ → List Level → Type 0

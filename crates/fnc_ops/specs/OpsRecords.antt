@@ -54,6 +54,11 @@ OthersWait req v w = (n : ℕ) → (n == req) ≡ false → waiting n w.operatio
 abbrev pub AllWait : Kept → Kept → Type 0
 AllWait v w = (n : ℕ) → waiting n w.operations ≡ waiting n v.operations
 
+-- whatever an operation waits for, but for that which was taken, if one was, it waits for afterwards
+abbrev pub AllWaitBut : Option Req → Kept → Kept → Type 0
+AllWaitBut None v w = AllWait v w
+AllWaitBut (Some req) v w = OthersWait req.0 v w
+
 -- the number of an operation with the answer that is due to it
 pub record DueTo : Type 0 where
   pub req : ℕ

@@ -10,7 +10,7 @@ ghost use Rattle.fnc_ops.specs.Stands.{AreAtButEnding, SpeaksAt};
 ghost use Rattle.fnc_ops.specs.Stands.{StandsFor, AreAt, AreBy, AreBounded, AreFewDevices, first_ended, IsStandingOf};
 ghost use Rattle.fnc_ops.specs.Stands.{IsTryOf, Try, AwaitsTry, IsFirstDue, behind, ask_entry, begun_request};
 ghost use Rattle.fnc_ops.specs.Stands.{start_entry, exit_entry, reply_entry, confirm_entry, next_of};
-ghost use Rattle.fnc_ops.specs.OpsRecords.{OthersWait, AllWait};
+ghost use Rattle.fnc_ops.specs.OpsRecords.{OthersWait, AllWait, AllWaitBut};
 ghost use Rattle.fnc_journal.specs.Found as Found;
 ghost use Rattle.fnc_journal.specs.Found.{starts, asks};
 ghost use Rattle.fnc_journal.specs.Plan as Planned;
@@ -31,6 +31,7 @@ use fnc_journal::{
     Answer, Confirmation, Ended, Journal, Kind, NoMemory, Plan, Req, Request, Start, Text,
 };
 use fnc_records::{OperationRecord, Standing};
+use fnc_stands::each_stands_still;
 use std::alloc::Global;
 use std::marker::Model;
 
@@ -251,7 +252,8 @@ impl Ops {
 
     /// A later moment has come. Of the operations whose standing slot has come to its action's end the first is
     /// taken, by that end and then by number, and its record speaks at the moment from now on, as do those of all
-    /// operations that are not still to be taken. None where there is none: then all records do.
+    /// operations that are not still to be taken. None where there is none: then all records do. What an operation
+    /// waits for changes for the one that is taken alone.
     pub fn expire(&mut self, journal: &Journal, moment: u64) -> Option<Req>
         requires stands { StandsFor self.old journal.now.history }
         requires later { AreBy moment self.old.operations }
@@ -265,7 +267,9 @@ impl Ops {
             behind moment self.new.operations < behind moment self.old.operations }
         ensures same { map (λ r. r.req) self.new.operations ≡ map (λ r. r.req) self.old.operations }
         ensures all { result ≡ None → AreAt moment self.new.operations }
+        ensures waits { Lawful journal.now.history → AllWaitBut result self.old self.new }
     {
+        each_stands_still();
         let expired = self.kept_expired(moment);
         self.kept_moved(expired, moment);
         expired

@@ -12,7 +12,6 @@ pub mod OperationAnswers
 pub mod Ranking
 pub mod OperationSteps
 pub mod Searches
-pub mod Distinct
 pub mod LeftTries
 pub mod StandingSlots
 pub mod EarlyMoments

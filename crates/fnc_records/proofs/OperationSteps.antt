@@ -53,6 +53,7 @@ use Rattle.fnc_journal.specs.Standing.{capable, ranks, queries_concluded}
 use Rattle.fnc_journal.proofs.Each.{each-map}
 use Rattle.fnc_journal.proofs.SlotLemmas.{same-begun, same-ended_other}
 use Rattle.fnc_journal.proofs.StandingLemmas.{Same, ranks-same, queries_concluded-same, capable-same}
+use Rattle.fnc_stands.specs.Distinct.{AreDistinct}
 use Rattle.fnc_records.specs.declared.slot.LastRun.{LastRun}
 use Rattle.fnc_records.specs.declared.slot.SlotRecord.{SlotRecord}
 use Rattle.fnc_records.specs.KeptLevel.{KeptLevel}
@@ -75,7 +76,6 @@ use Rattle.fnc_records.specs.OperationFacts.{
   IsOperation,
   kept_queries,
   tried_levels,
-  AreDistinct,
   ArePast,
   AreInTurn,
 }

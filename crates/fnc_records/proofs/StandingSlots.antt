@@ -54,6 +54,7 @@ use Rattle.fnc_journal.specs.Standing.{ranks, capable, queries_concluded, lost, 
 use Rattle.fnc_journal.proofs.Each.{found-each, each-map}
 use Rattle.fnc_journal.proofs.AliveRuns.{slot_same}
 use Rattle.fnc_journal.proofs.LawfulSteps.{same_slot-self}
+use Rattle.fnc_stands.specs.Distinct.{AreDistinct}
 use Rattle.fnc_records.specs.declared.slot.LastRun.{LastRun}
 use Rattle.fnc_records.specs.declared.slot.SlotRecord.{SlotRecord}
 use Rattle.fnc_records.specs.KeptOperation.{KeptOperation}
@@ -61,13 +62,12 @@ use Rattle.fnc_records.specs.SlotFacts.{last_of}
 use Rattle.fnc_records.specs.LevelFacts.{IsLevelSlot, IsQuerySlot, IsLevel}
 use Rattle.fnc_records.specs.OperationFacts.{
   IsOperation,
-  AreDistinct,
   AreQueries,
   last_begun,
   kept_queries,
   tried_levels,
 }
-use Rattle.fnc_records.proofs.Distinct.{ranked-distinct}
+use Rattle.fnc_stands.proofs.Distinct.{ranked-distinct}
 use Rattle.fnc_records.proofs.Searches.{found-passes, none-each, each-both, each-slots}
 use Rattle.fnc_records.proofs.Zip.{zip_each}
 use Rattle.fnc_records.proofs.SlotAnswers.{Agrees, last-agrees}

@@ -33,7 +33,7 @@ use Rattle.fnc_records.specs.SlotRecords.{at_level, capped}
 use Rattle.fnc_records.specs.OperationRecords.{is_idle}
 use Rattle.fnc_records.specs.LevelFacts.{IsLevelSlot, IsQuerySlot, IsQuery, IsLevel}
 use Rattle.fnc_records.specs.SlotFacts.{BothOr, last_of}
-use Rattle.fnc_journal.specs.Same.{same_slot}
+use Rattle.fnc_stands.specs.Distinct.{AreDistinct}
 
 -- the records of the queries
 abbrev pub kept_queries : List KeptLevel → List SlotRecord
@@ -69,11 +69,6 @@ pub record IsUnranked (o : Operation) (xs : List Act) (ls : List KeptLevel) : Ty
   pub few : length o.candidates ≤ MOST_DEVICES
   pub queried : AreQueries xs
   pub candidates : AllZip (IsCandidate o xs) ls o.candidates
-
--- no two of these slots are the same
-abbrev pub AreDistinct : List Task → Type 0
-AreDistinct [] = Unit {0}
-AreDistinct (t ∷ ts) = AllByRecursion (λ u. same_slot u.slot t.slot ≡ false) ts × AreDistinct ts
 
 -- no act came after a moment
 abbrev pub ArePast : ℕ → List Act → Type 0

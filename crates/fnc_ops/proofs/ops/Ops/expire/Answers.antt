@@ -1,10 +1,11 @@
 -- The records stand for the journal at the moment.
-use Rattle.std.proofs.Common.{◌<◌, ◌∙◌, sym, ap, subst, map}
+use Rattle.std.proofs.Common.{◌<◌, ◌∙◌, refl, sym, ap, subst, map}
 use Rattle.fnc_ops.specs.Kept.{Kept}
-use Rattle.fnc_ops.specs.OpsRecords.{moved}
+use Rattle.fnc_ops.specs.OpsRecords.{moved, AllWaitBut}
 use Rattle.fnc_ops.specs.Stands.{StandsFor, AreAt, AreBy, behind, SpeaksAt, AreAtButEnding}
 use Rattle.fnc_ops.proofs.Behind.{by-moved, fewer-behind, numbers-moved, told-moved}
 use Rattle.fnc_ops.proofs.StandsMoments.{first-expired, stands-moved, all-moved, others-moved}
+use Rattle.fnc_ops.proofs.StillWaits.{all-wait}
 use Rattle.fnc_ops.proofs.ops.Ops.expire.Goals as goal
 
 pub returns-clause-first : goal.returns-clause-first
@@ -54,3 +55,14 @@ returns-clause-fewer c req e =
 pub returns-clause-same : goal.returns-clause-same
 returns-clause-same c = ap (λ (v : Kept). map (λ r. r.req) v.operations) c.kept_moved.ensures
     ∙ numbers-moved c.args.moment c.kept_expired-expired.result c.args.self.now.operations
+
+pub returns-clause-waits : goal.returns-clause-waits
+returns-clause-waits c lawful =
+    subst (AllWaitBut c.kept_expired-expired.result c.args.self.now) (sym c.kept_moved.ensures)
+    (all-wait c.args.journal.now.history
+    (λ o a m. c.each_stands_still.ensures.still c.args.journal.now.history o a m lawful) c.args.moment
+    c.kept_expired-expired.result c.args.self.now
+    (record c.args.self.now {
+      operations = moved c.kept_expired-expired.result c.args.moment c.args.self.now.operations;
+    })
+    c.kept_expired-expired.ensures c.requires.later c.requires.stands.each refl)

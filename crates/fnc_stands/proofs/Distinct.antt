@@ -44,8 +44,8 @@ use Rattle.fnc_journal.specs.Slots.{
   slots_of,
 }
 use Rattle.fnc_journal.proofs.Each.{each-map}
-use Rattle.fnc_records.specs.OperationFacts.{AreDistinct}
-use Rattle.fnc_records.proofs.Searches.{each-joined}
+use Rattle.fnc_stands.specs.Distinct.{AreDistinct}
+use Rattle.fnc_stands.proofs.Lists.{each-joined}
 
 -- what makes two slots different
 pub other-place : (s w : Slot) → (s.place ≡ w.place → ⊥) → same_slot s w ≡ false
@@ -68,7 +68,7 @@ other-phase : (s w : Slot) → (phase_place s.phase == phase_place w.phase) ≡ 
 other-phase s w e = rw e refl
 
 -- two lists of distinct slots, of which none is in both
-distinct-joined : (xs ys : List Task) → AreDistinct xs → AreDistinct ys →
+pub distinct-joined : (xs ys : List Task) → AreDistinct xs → AreDistinct ys →
     AllByRecursion (λ t. AllByRecursion (λ u. same_slot u.slot t.slot ≡ false) ys) xs → AreDistinct (xs ++ ys)
 distinct-joined [] ys d e a = e
 distinct-joined (x ∷ xs) ys d e a = (
