@@ -14,7 +14,6 @@ pub mod NextStarts
 pub mod StartSteps
 pub mod Items
 pub mod Places
-pub mod Refilling
 pub mod DueFirst
 pub mod OwedFalls
 pub mod HeldOpen

@@ -28,6 +28,8 @@ use Rattle.std.proofs.Common.{
   map,
   length,
   eqb-true,
+  false-eqb,
+  ne_eqb,
 }
 use Rattle.std.specs.Prelude.{option_map, find}
 use Rattle.std.specs.List.{list_any}
@@ -40,33 +42,22 @@ use Rattle.fnc_journal.specs.Startable.{alive_runs}
 use Rattle.fnc_journal.specs.Lawful.{Pending, pending, last_moment}
 use Rattle.fnc_ops.specs.Kept.{Kept}
 use Rattle.fnc_records.specs.KeptOperation.{KeptOperation}
-use Rattle.fnc_ops.specs.OpsRecords.{is_of}
+use Rattle.fnc_ops.specs.OpsRecords.{OthersWait}
 use Rattle.fnc_ops.specs.Stands.{StandsFor, AreAt, AreBy}
 use Rattle.fnc_queue.specs.declared.waiting.Waiting.{Waiting}
-use Rattle.fnc_queue.specs.Items.{is_waiting}
+use Rattle.fnc_queue.specs.Items.{Changes, is_waiting, item_of}
 use Rattle.fnc_queue.specs.Lanes.{lane_count}
 use Rattle.fnc_queue.specs.Queued.{Queued}
 use Rattle.fnc_core.specs.Parted.{Parted}
-use Rattle.fnc_core.specs.Wanted.{Waits, HasPlaces, OnlyThese, held}
+use Rattle.fnc_core.specs.Wanted.{Waits, HasPlaces, held, item_for, wanted}
 use Rattle.fnc_core.specs.Between.{Between, Rests, MayContinue}
-use Rattle.fnc_core.proofs.Items.{wanted-none}
 
 -- what speaks at a moment speaks at no later one
 pub by-then : (last m : ℕ) → last ≤ m → (rs : List KeptOperation) → AreAt last rs → AreBy m rs
 by-then last m le [] a = tt
 by-then last m le (r ∷ rs) a = let at : r.moment ≡ last = a.0 in (omega (arith, le, at), by-then last m le rs a.1)
 
--- records of the same numbers are of the same operations
-same-listed : (req : ℕ) (rs ss : List KeptOperation) → map (λ r. r.req) ss ≡ map (λ r. r.req) rs →
-    list_any (is_of req) ss ≡ list_any (is_of req) rs
-same-listed req [] [] e = refl
-same-listed req [] (s ∷ ss) e = cc
-same-listed req (r ∷ rs) [] e = cc
-same-listed req (r ∷ rs) (s ∷ ss) e =
-    let own : s.req ≡ r.req = cc in
-    let rest : map (λ r. r.req) ss ≡ map (λ r. r.req) rs = cc in
-    ap₂ (λ n b. (n == req) || b) own (same-listed req rs ss rest)
-
+-- records of the same numbers have as many items
 pub held-same : (items : List Waiting) (rs ss : List KeptOperation) → map (λ r. r.req) ss ≡ map (λ r. r.req) rs →
     held ss items ≡ held rs items
 held-same items [] [] e = refl
@@ -77,16 +68,22 @@ held-same items (r ∷ rs) (s ∷ ss) e =
     let rest : map (λ r. r.req) ss ≡ map (λ r. r.req) rs = cc in
     ap₂ (λ n k. cond (is_waiting n items) (k + 1) k) own (held-same items rs ss rest)
 
--- no operation has an item that has no record
-pub only-kept : (h : History) (v new : Kept) (q : Queued) → Waits h v q →
-    map (λ r. r.req) new.operations ≡ map (λ r. r.req) v.operations → OnlyThese new.operations q.waiting
-only-kept h v new q w e req f = w req ∙ wanted-none h req v (sym (same-listed req v.operations new.operations e) ∙ f)
-
 -- a place for each entry that is owed, with other records of the same operations
 pub places-same : (h : History) (v new : Kept) (q : Queued) → HasPlaces h v q →
     map (λ r. r.req) new.operations ≡ map (λ r. r.req) v.operations → HasPlaces h new q
 places-same h v new q p e = subst (λ n. owed h ≤ q.spare + n + length (alive_runs h))
     (sym (held-same q.waiting v.operations new.operations e)) p
+
+-- where one operation was taken and has the item that it wants, all have theirs
+pub waits-taken : (h : History) (req : ℕ) (v w : Kept) (q new : Queued) → Waits h v q → OthersWait req v w →
+    Changes req (wanted h req w) q.waiting new.waiting → Waits h w new
+waits-taken h req v w q new waits others changes n = changes n ∙ go (req == n) refl
+  where
+    go : (b : Bool) → (req == n) ≡ b → cond b (wanted h req w) (item_of n q.waiting) ≡ wanted h n w
+    go true e = ap (λ k. wanted h k w) (eqb-true req n e)
+    go false e =
+        let other : (n == req) ≡ false = ne_eqb n req (λ g. false-eqb req n (sym e) (sym g)) in
+        waits n ∙ ap (option_map (item_for h n)) (sym (others n other))
 
 -- where nothing is due no reply must follow
 any-found : (p : Operation → Bool) (xs : List Operation) → list_any p xs ≡ is_some (find p xs)

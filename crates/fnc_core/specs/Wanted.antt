@@ -10,12 +10,9 @@ use Rattle.std.specs.Prelude.{
   if◌then◌else◌,
   length,
   Option,
-  None,
-  false,
   option_map,
   option_and_then,
 }
-use Rattle.std.specs.List.{list_any}
 use Rattle.fnc_journal.specs.History.{History}
 use Rattle.fnc_journal.specs.Found.{registration}
 use Rattle.fnc_journal.specs.Registered.{lane}
@@ -24,7 +21,7 @@ use Rattle.fnc_journal.specs.Owed.{owed}
 use Rattle.fnc_records.specs.declared.operation.Standing.{Standing}
 use Rattle.fnc_ops.specs.Kept.{Kept}
 use Rattle.fnc_records.specs.KeptOperation.{KeptOperation}
-use Rattle.fnc_ops.specs.OpsRecords.{waiting, is_of}
+use Rattle.fnc_ops.specs.OpsRecords.{waiting}
 use Rattle.fnc_queue.specs.declared.waiting.Waiting.{Waiting}
 use Rattle.fnc_queue.specs.Items.{item_of, is_waiting}
 use Rattle.fnc_queue.specs.Lanes.{lane_count}
@@ -67,7 +64,3 @@ HasPlaces h v q = owed h ≤ q.spare + held v.operations q.waiting + length (ali
 -- one where an operation has an item
 abbrev pub one_if_held : ℕ → List Waiting → ℕ
 one_if_held req items = if is_waiting req items then 1 else 0
-
--- no operation has an item but those of these records
-abbrev pub OnlyThese : List KeptOperation → List Waiting → Type 0
-OnlyThese os items = (req : ℕ) → list_any (is_of req) os ≡ false → item_of req items ≡ None

@@ -1,8 +1,6 @@
 // The queue keeps up with what the operations wait for.
 
 ghost use Rattle.std.specs.Prelude.{◌≡◌, ◌<◌, ◌+◌, true, false, is_some};
-ghost use Rattle.fnc_journal.specs.Lawful.{Lawful};
-ghost use Rattle.fnc_ops.specs.Stands.{StandsFor};
 ghost use Rattle.fnc_queue.specs.Items.{is_waiting, Changes};
 ghost use Rattle.fnc_core.specs.Wanted as Wanted;
 
@@ -24,20 +22,5 @@ pub(crate) fn requeue(journal: &Journal, ops: &Ops, queue: &mut Queue, operation
     queue.withdraw(operation);
     if let Some(item) = wanted(journal, ops, operation) {
         queue.add(item);
-    }
-}
-
-/// The queue's items become those of the tries that the open operations wait for. No other operation has one.
-pub(crate) fn refill(journal: &Journal, ops: &Ops, queue: &mut Queue)
-    requires lawful { Lawful journal.now.history }
-    requires stands { StandsFor ops.now journal.now.history }
-    requires only { Wanted.OnlyThese ops.now.operations queue.old.waiting }
-    requires has_places { Wanted.HasPlaces journal.now.history ops.now queue.old }
-    ensures waits { Wanted.Waits journal.now.history ops.now queue.new }
-    ensures alive { queue.new.alive ≡ queue.old.alive }
-    ensures has_places { Wanted.HasPlaces journal.now.history ops.now queue.new }
-{
-    for place in 0..ops.len() {
-        requeue(journal, ops, queue, ops.number(place));
     }
 }

@@ -1,16 +1,19 @@
 -- What the loop keeps true, and why it ends.
-use Rattle.std.proofs.Common.{◌≡◌, map}
+use Rattle.std.proofs.Common.{◌≡◌}
 use Rattle.fnc_ops.specs.Stands.{StandsFor, AreBy, behind}
+use Rattle.fnc_core.specs.Wanted.{Waits, HasPlaces}
 use Rattle.fnc_core.proofs.time.expire_all.Given as goal
 
--- the records stand for the journal, and speak at no later moment
-abbrev pub invariant-loop : goal.invariant-loop
-invariant-loop l = record {
+-- the records stand for the journal, and speak at no later moment; the queue has the items that they want, and places
+abbrev pub invariant-loop-req : goal.invariant-loop-req
+invariant-loop-req l = record {
   stands : StandsFor l.ops l.journal.history;
   later : AreBy l.moment l.ops.operations;
-  same : map (λ r. r.req) l.ops.operations ≡ map (λ r. r.req) l.fn.ops.operations;
+  waits : Waits l.journal.history l.ops l.queue;
+  alive : l.queue.alive ≡ l.fn.queue.alive;
+  has_places : HasPlaces l.journal.history l.ops l.queue;
 }
 
 -- how many records speak of an earlier moment
-abbrev pub decreases-loop : goal.decreases-loop
-decreases-loop l = behind l.moment l.ops.operations
+abbrev pub decreases-loop-req : goal.decreases-loop-req
+decreases-loop-req l = behind l.moment l.ops.operations
